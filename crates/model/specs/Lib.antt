@@ -1,0 +1,6 @@
+pub mod Sizes
+pub mod Refusals
+pub mod Bytes
+pub mod Replies
+pub mod Locks
+pub mod Home
