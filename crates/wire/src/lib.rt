@@ -1,0 +1,5 @@
+// Messages as bytes: `encode` gives a message's bytes, `decode` reads any bytes as a message or refuses them.
+mod fields;
+mod read;
+
+pub use read::decode;
