@@ -1,0 +1,10 @@
+pub mod Queue
+pub mod Stations
+pub mod Refused
+pub mod Longer
+pub mod Steps
+pub mod Turns
+pub mod Line
+pub mod Locking
+pub mod Diffs
+pub mod All
