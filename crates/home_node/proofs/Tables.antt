@@ -14,6 +14,7 @@ use Rattle.std.proofs.shelf.Ways.{eqb-tells}
 use Rattle.model.specs.declared.Holder.{Holder}
 use Rattle.model.specs.declared.Waiter.{Waiter}
 use Rattle.model.specs.Sizes.{put}
+use Rattle.model.specs.Home.{HomeState, homeAfter, fresh}
 use Rattle.model.specs.Locks.{LockTable}
 
 -- one entry written
@@ -36,3 +37,16 @@ filled d n = fun-ext (fill-at d n)
 -- lock tables with the same parts
 pub same-table : {r r′ : ℕ → ℕ} {h h′ : ℕ → Option Holder} {w w′ : List Waiter} → r ≡ r′ → h ≡ h′ → w ≡ w′ → _≡_ {A = LockTable} (record { requested = r; holder = h; waiting = w }) (record { requested = r′; holder = h′; waiting = w′ })
 same-table e f g = rw (e, f, g)
+
+pub same-home :
+  {w w′ a a′ : ℕ → ℕ} {l l′ : LockTable} → w ≡ w′ → a ≡ a′ → l ≡ l′ →
+  _≡_ {A = HomeState} (record { words = w; applied = a; locks = l }) (record { words = w′; applied = a′; locks = l′ })
+same-home e f g = rw (e, f, g)
+
+-- a table that holds one value all over
+pub all-one : {A : Type 0} (d : A) (n : ℕ) (xs : List A) → xs ≡ replicate n d → _≡_ {A = ℕ → A} (λ j. getD xs j d) (λ j. d)
+all-one d n xs e = rw e (filled d n)
+
+pub at-first : homeAfter [] ≡ fresh
+unfolding homeAfter
+at-first = refl

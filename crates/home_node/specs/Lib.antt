@@ -1,3 +1,4 @@
 pub mod Answers
+pub mod Homes
 pub mod Lines
 pub mod Tables

@@ -1,4 +1,6 @@
 // What a message is answered with.
+ghost use mathlib.Core.Path.{_≡_};
+ghost use Rattle.std.specs.declared.option.Option.the-variants.{None, Some};
 use model::Message;
 use model::Refusal;
 
@@ -15,4 +17,16 @@ pub enum Sent {
 pub struct Answer {
     pub refusal: Option<Refusal>,
     pub sent: Sent,
+}
+
+pub fn done(sent: Sent) -> Answer
+    ensures { λ r. ⌜ r ≡ record { refusal = None; sent = sent } ⌝ }
+{
+    Answer { refusal: None, sent }
+}
+
+pub fn refused(why: Refusal, sent: Sent) -> Answer
+    ensures { λ r. ⌜ r ≡ record { refusal = Some why; sent = sent } ⌝ }
+{
+    Answer { refusal: Some(why), sent }
 }

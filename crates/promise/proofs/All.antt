@@ -20,7 +20,7 @@ use Rattle.promise.specs.Home.{AllKept}
 use Rattle.promise.proofs.Diffs.{Diffs, diffs-same, diffs-put}
 use Rattle.promise.proofs.Locking.{Table, table-same, requests-keep, releases-keep}
 use Rattle.promise.proofs.Queue.{apart-few}
-use Rattle.promise.proofs.Stations.{Names, parse-names}
+use Rattle.promise.proofs.Ranges.{Names, parse-names}
 use Rattle.promise.proofs.Steps.{Keeps, keeps-done, keeps-refused, keeps-cond}
 use Rattle.promise.proofs.Turns.{turn-taken}
 
@@ -47,7 +47,7 @@ hears-keeps es h (Diff s n p cs) named k =
     (keeps-cond (leb n (h .applied s)) (λ _. keeps-refused _ _ _ k) (keeps-refused _ _ _ k))
 hears-keeps es h (DiffApplied s n) named k = keeps-refused _ _ _ k
 hears-keeps es h (LockRequest s l n) named k =
-    locked-keeps es h (LockRequest s l n) _ k (λ _. refl) (λ _. refl) (requests-keep es (h .locks) s l n (k .table) (named .station))
+    locked-keeps es h (LockRequest s l n) _ k (λ _. refl) (λ _. refl) (requests-keep es (h .locks) s l n (k .table) (named .known .0))
 hears-keeps es h (LockGranted s l n) named k = keeps-refused _ _ _ k
 hears-keeps es h (LockReleased s l n) named k =
     locked-keeps es h (LockReleased s l n) _ k (λ _. refl) (λ _. refl) (releases-keep es (h .locks) s l n (k .table))

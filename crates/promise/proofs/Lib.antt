@@ -1,5 +1,5 @@
 pub mod Queue
-pub mod Stations
+pub mod Ranges
 pub mod Refused
 pub mod Longer
 pub mod Steps
@@ -8,3 +8,9 @@ pub mod Line
 pub mod Locking
 pub mod Diffs
 pub mod All
+pub mod Numbers
+pub mod Words
+pub mod Changes
+pub mod Back
+pub mod Texts
+pub mod Lengths

@@ -1,2 +1,4 @@
+pub mod Codec
 pub mod History
 pub mod Home
+pub mod Ranges

@@ -3,14 +3,15 @@ ghost use mathlib.Core.Path.{_≡_};
 ghost use Prim.Native.Nat.{_<_};
 ghost use Rattle.std.specs.Of.Vec.{vec-items};
 ghost use Rattle.std.specs.Vec.{made};
-ghost use Rattle.std.specs.declared.option.Option.the-variants.{None, Some};
-ghost use Rattle.model.specs.declared.Refusal.the-variants.{StaleNumber};
+ghost use Rattle.std.specs.declared.option.Option.the-variants.{None};
 ghost use lib.ListN.{getD};
 ghost use Rattle.model.specs.Locks.{unlocked, admitted, requests, passedOn, releases, waitsWith, firstFor, isHeldBy};
 ghost use Rattle.home_node.specs.Answers.{replyOf};
 ghost use Rattle.home_node.specs.Tables.{tableOf};
 use crate::answer::Answer;
 use crate::answer::Sent;
+use crate::answer::done;
+use crate::answer::refused;
 use crate::locks::Locks;
 use crate::locks::line::first_for;
 use crate::locks::line::still_waits;
@@ -61,9 +62,9 @@ impl Locks {
             return self.admit(station, lock, number);
         }
         if number <= last && !still_waits(self.waiting.as_slice(), station, number) {
-            return stale(Sent::One(Message::LockGranted { station, lock, number }));
+            return refused(Refusal::StaleNumber, Sent::One(Message::LockGranted { station, lock, number }));
         }
-        stale(Sent::Nothing)
+        refused(Refusal::StaleNumber, Sent::Nothing)
     }
 
     // The holder gives the lock back, and the first that waits for it holds it.
@@ -95,9 +96,9 @@ impl Locks {
             return self.pass_on(station, lock, number);
         }
         if number <= self.requested[station as usize] && !still_waits(self.waiting.as_slice(), station, number) {
-            return stale(Sent::One(Message::ReleaseTaken { station, lock, number }));
+            return refused(Refusal::StaleNumber, Sent::One(Message::ReleaseTaken { station, lock, number }));
         }
-        stale(Sent::Nothing)
+        refused(Refusal::StaleNumber, Sent::Nothing)
     }
 }
 
@@ -108,17 +109,4 @@ fn is_held_by(holder: Option<Holder>, station: u8, number: u32) -> bool
         Some(held) => held.station == station && held.number == number,
         None => false,
     }
-}
-
-// A number that is not the next one: nothing changes.
-fn stale(sent: Sent) -> Answer
-    ensures { λ r. ⌜ r ≡ record { refusal = Some StaleNumber; sent = sent } ⌝ }
-{
-    Answer { refusal: Some(Refusal::StaleNumber), sent }
-}
-
-fn done(sent: Sent) -> Answer
-    ensures { λ r. ⌜ r ≡ record { refusal = None; sent = sent } ⌝ }
-{
-    Answer { refusal: None, sent }
 }

@@ -1,0 +1,39 @@
+// What comes in, and what is answered.
+ghost use mathlib.Core.Bool.{cond};
+ghost use mathlib.Core.List.{List};
+ghost use mathlib.Core.Path.{_≡_};
+ghost use Prim.Native.Nat.{ℕ, _<_};
+ghost use Rattle.std.specs.Vec.{made};
+ghost use Rattle.std.specs.declared.result.Result.the-variants.{Ok, Err};
+ghost use Rattle.model.specs.declared.Refusal.the-variants.{Malformed};
+ghost use Rattle.model.specs.Home.{fresh, applies, hears, receives};
+ghost use Rattle.model.specs.Sizes.{isWord};
+ghost use Rattle.promise.specs.Ranges.{Known};
+ghost use Rattle.home_node.specs.Answers.{replyOf};
+ghost use Rattle.home_node.specs.Homes.{homeOf, Onward};
+use crate::node::Home;
+use crate::locks::Locks;
+use model::Refusal;
+use std::alloc::AllocError;
+use std::alloc::Global;
+
+impl Home {
+    // All words 0, no lock held.
+    pub fn new(heap: Global) -> Result<Home, AllocError>
+        ensures { λ r. ⌜ made r (λ h. homeOf h ≡ fresh) ⌝ }
+    {
+        let words = vec![in heap; 0; 65536]?;
+        let locks = Locks::new(heap)?;
+        Ok(Home { words, applied: [0; 16], locks })
+    }
+
+    // A word as it is now.
+    pub fn word(&self, word: u32) -> Result<u32, Refusal>
+        ensures { λ r. ⌜ r ≡ cond (isWord word) (Ok (homeOf (now (self .entry)) .words word)) (Err Malformed) ⌝ }
+    {
+        if word >= 65536 {
+            return Err(Refusal::Malformed);
+        }
+        Ok(self.words[word as usize])
+    }
+}
