@@ -1,3 +1,4 @@
 pub mod Tables
 pub mod Lines
 pub mod Passing
+pub mod Onward

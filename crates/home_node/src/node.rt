@@ -2,7 +2,6 @@
 ghost use mathlib.Core.List.{List};
 ghost use mathlib.Core.Path.{_≡_};
 ghost use Prim.Native.Nat.{ℕ};
-ghost use lib.ListN.{length};
 ghost use Rattle.std.specs.Of.Vec.{vec-len};
 ghost use Rattle.model.specs.Home.{homeAfter};
 ghost use Rattle.home_node.specs.Tables.{stateOf};
@@ -19,6 +18,5 @@ pub struct Home {
     applied: [u32; 16],
     locks: Locks,
     ghost whole: { vec-len words ≡ 65536 },
-    ghost each: { length applied ≡ 16 },
     ghost reached: { ∥ ((seen : List (List ℕ)) × (stateOf words applied locks ≡ homeAfter seen)) ∥₁ },
 }

@@ -11,11 +11,16 @@ ghost use Rattle.model.specs.Sizes.{isWord};
 ghost use Rattle.promise.specs.Ranges.{Known};
 ghost use Rattle.home_node.specs.Answers.{replyOf};
 ghost use Rattle.home_node.specs.Homes.{homeOf, Onward};
+use crate::answer::Answer;
+use crate::answer::Sent;
+use crate::answer::refused;
 use crate::node::Home;
+use crate::node::hear::hear;
 use crate::locks::Locks;
 use model::Refusal;
 use std::alloc::AllocError;
 use std::alloc::Global;
+use wire::decode;
 
 impl Home {
     // All words 0, no lock held.
@@ -35,5 +40,16 @@ impl Home {
             return Err(Refusal::Malformed);
         }
         Ok(self.words[word as usize])
+    }
+
+    // Any bytes at all: done or refused as the rules say, and every promise of the home is kept afterwards.
+    pub fn receive(&mut self, bytes: &[u8]) -> Answer
+        ensures answer { λ r. ⌜ replyOf r (homeOf (now (self .exit))) ≡ receives (homeOf (now (self .entry))) (now (bytes .entry)) ⌝ }
+        ensures promises { λ _. ⌜ ∥ ((seen : List (List ℕ)) × Onward (homeOf (now (self .entry))) (homeOf (now (self .exit))) (now (bytes .entry)) seen) ∥₁ ⌝ }
+    {
+        match decode(bytes) {
+            Ok(message) => hear(self.words.as_mut_slice(), &mut self.applied, &mut self.locks, &message),
+            Err(why) => refused(why, Sent::Nothing),
+        }
     }
 }

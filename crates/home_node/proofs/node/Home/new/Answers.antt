@@ -1,4 +1,4 @@
-use mathlib.Core.Path.{refl, sym, _∙_}
+use mathlib.Core.Path.{sym, _∙_}
 use mathlib.Core.List.{[]}
 use Rattle.std.proofs.shelf.Results.{err-from-errBy}
 use Rattle.home_node.proofs.Tables.{filled, same-home, all-one, at-first}
@@ -12,7 +12,7 @@ returns-in-Break-locks c =
 pub ghost-result : need.ghost-result
 ghost-result c =
     let words = c .in-Continue-words .ensures tt in
-    (words .made .1, (refl, (∣ ([], same-home (all-one 0 65536 _ (words .exact (λ y h. h))) (filled 0 16) (c .in-Continue-locks .ensures tt) ∙ sym at-first) ∣₁, tt)))
+    (words .made .1, (∣ ([], same-home (all-one 0 65536 _ (words .exact (λ y h. h))) (filled 0 16) (c .in-Continue-locks .ensures tt) ∙ sym at-first) ∣₁, tt))
 
 pub returns : need.returns
 returns c =
