@@ -10,7 +10,7 @@ use lib.ListN.{length, getD, drop, take}
 use Rattle.std.specs.Holes.{removed}
 use Rattle.std.specs.declared.option.Option.{Option}
 use Rattle.std.specs.declared.option.Option.the-variants.{Some, None}
-use Rattle.std.proofs.shelf.Lists.{drop-more, drop-all, take-more, append-assoc, append-nil, getD-default}
+use Rattle.std.proofs.shelf.Lists.{drop-more, drop-all, take-more, take-all, append-assoc, append-nil, getD-default}
 use Rattle.std.proofs.shelf.Ways.{tells}
 use Rattle.model.specs.declared.Waiter.{Waiter}
 use Rattle.model.specs.Locks.{waitsWith, firstFor, withoutFirst}
@@ -55,8 +55,10 @@ module _ (l : ℕ) (ws : List Waiter) (i : ℕ) (d : Waiter) (h : i < length ws)
       record {
         first = before .first ∙ first-next ∙ rw t;
         without =
-          before .without ∙ ap (λ r. take i ws ++ r) (without-next ∙ rw t) ∙ sym (append-assoc (take i ws) (getD ws i d ∷ []) _) ∙ ap (λ f. f ++ withoutFirst l (drop (i + 1) ws)) (sym (take-more ws i d h));
+            before .without ∙ ap (λ r. take i ws ++ r) (without-next ∙ rw t) ∙ sym (append-assoc (take i ws) (getD ws i d ∷ []) _) ∙ ap (λ f. f ++ withoutFirst l (drop (i + 1) ws)) (sym (take-more ws i d h));
       }
 
 pub none-at-all : (l : ℕ) (ws : List Waiter) (i : ℕ) → length ws ≤ i → NoneBefore l ws i → Found l ws None
-none-at-all l ws i h before = before .first ∙ ap (firstFor l) (drop-all i ws h)
+none-at-all l ws i h before =
+    let end = drop-all i ws h in
+    (before .first ∙ ap (firstFor l) end, before .without ∙ ap (λ v. take i ws ++ withoutFirst l v) end ∙ append-nil _ ∙ take-all i ws h)

@@ -46,8 +46,8 @@ module _ (h after : HomeState) (bytes : List ℕ) (e : after ≡ receives h byte
 
 -- the tables after a message was heard; slice: the words as they were lent, ws: as they came back
 module _ (words : Vec ℕ Global) (applied : List ℕ) (locks : Locks) (slice ws a : List ℕ) (t : Locks) (answer : Answer) (bytes : List ℕ) (m : Message)
-  (same : slice ≡ vec-items words) (long : length ws ≡ words .len) (read : Ok m ≡ parse bytes)
-  (heard : replyOf answer (stateAt ws a (tableOf t)) ≡ hears (stateAt slice applied (tableOf locks)) m) where
+    (same : slice ≡ vec-items words) (long : length ws ≡ words .len) (read : Ok m ≡ parse bytes)
+    (heard : replyOf answer (stateAt ws a (tableOf t)) ≡ hears (stateAt slice applied (tableOf locks)) m) where
   pub heard-answer : replyOf answer (stateOf (refilled words ws) a t) ≡ receives (stateOf words applied locks) bytes
   heard-answer = rw (refilled-is words ws long) (answered _ bytes m read (rw same at heard))
 

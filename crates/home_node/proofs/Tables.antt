@@ -39,8 +39,8 @@ pub same-table : {r r′ : ℕ → ℕ} {h h′ : ℕ → Option Holder} {w w′
 same-table e f g = rw (e, f, g)
 
 pub same-home :
-  {w w′ a a′ : ℕ → ℕ} {l l′ : LockTable} → w ≡ w′ → a ≡ a′ → l ≡ l′ →
-  _≡_ {A = HomeState} (record { words = w; applied = a; locks = l }) (record { words = w′; applied = a′; locks = l′ })
+    {w w′ a a′ : ℕ → ℕ} {l l′ : LockTable} → w ≡ w′ → a ≡ a′ → l ≡ l′ →
+    _≡_ {A = HomeState} (record { words = w; applied = a; locks = l }) (record { words = w′; applied = a′; locks = l′ })
 same-home e f g = rw (e, f, g)
 
 -- a table that holds one value all over

@@ -22,11 +22,17 @@ pub struct Answer {
 pub fn done(sent: Sent) -> Answer
     ensures { λ r. ⌜ r ≡ record { refusal = None; sent = sent } ⌝ }
 {
-    Answer { refusal: None, sent }
+    Answer {
+        refusal: None,
+        sent,
+    }
 }
 
 pub fn refused(why: Refusal, sent: Sent) -> Answer
     ensures { λ r. ⌜ r ≡ record { refusal = Some why; sent = sent } ⌝ }
 {
-    Answer { refusal: Some(why), sent }
+    Answer {
+        refusal: Some(why),
+        sent,
+    }
 }

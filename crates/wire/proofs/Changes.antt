@@ -22,9 +22,10 @@ is-next bs at place h = ap (isNext place) (drop-more bs at 0 h)
 
 not-next : (bs : List ℕ) (at place : ℕ) → (at < length bs → getD bs at 0 ≡ place → ⊥) → isNext place (drop at bs) ≡ false
 not-next bs at place h =
-    elim (cases-lt at (length bs))
-    [ inl l ↦ is-next bs at place l ∙ (let other = h l in grind (arith, tells))
-    | inr l ↦ ap (isNext place) (drop-all at bs l) ]
+    elim (cases-lt at (length bs)) [
+      | inl l ↦ is-next bs at place l ∙ (let other = h l in grind (arith, tells))
+      | inr l ↦ ap (isNext place) (drop-all at bs l)
+    ]
 
 pub record SoFar (bs : List ℕ) (place at : ℕ) (changes : List (Option ℕ)) : Type 0 where
   pub long : length changes ≡ 64
@@ -70,8 +71,8 @@ module _ (bs : List ℕ) (place at : ℕ) (changes : List (Option ℕ)) (before 
         fives = before .fives;
         blank = λ k h. before .blank k (omega arith);
         read =
-          ap (λ f. f ++ changesFrom (64 - (place + 1)) (place + 1) (drop at bs)) (take-more changes place None within ∙ ap (λ x. take place changes ++ x ∷ []) (before .blank place (omega arith))) ∙
-          moved (take place changes) _ _ None (ap (λ r. take place changes ++ r) (sym (changes-other _ place (drop at bs) e) ∙ ap (λ n. changesFrom n place (drop at bs)) (sym steps)) ∙ before .read);
+            ap (λ f. f ++ changesFrom (64 - (place + 1)) (place + 1) (drop at bs)) (take-more changes place None within ∙ ap (λ x. take place changes ++ x ∷ []) (before .blank place (omega arith))) ∙
+            moved (take place changes) _ _ None (ap (λ r. take place changes ++ r) (sym (changes-other _ place (drop at bs) e) ∙ ap (λ n. changesFrom n place (drop at bs)) (sym steps)) ∙ before .read);
         left = sym (left-other _ place (drop at bs) e) ∙ ap (λ n. leftFrom n place (drop at bs)) (sym steps) ∙ before .left;
       }
 
@@ -90,13 +91,13 @@ module _ (bs : List ℕ) (place at : ℕ) (changes : List (Option ℕ)) (before 
           fives = omega (arith, before .fives);
           blank = λ k h. getD-set-other changes place k _ None (omega arith) ∙ before .blank k (omega arith);
           read =
-            ap (λ f. f ++ changesFrom (64 - (place + 1)) (place + 1) (drop (at + 5) bs)) (take-more-set changes place _ within) ∙
-            moved (take place changes) _ _ _
-            (ap (λ b. take place changes ++ (Some (u32At bs (at + 1)) ∷ changesFrom (64 - (place + 1)) (place + 1) b)) (sym (drop-drop 5 at bs)) ∙
-             ap (λ w. take place changes ++ (Some w ∷ changesFrom (64 - (place + 1)) (place + 1) (drop 5 (drop at bs)))) (sym word) ∙
-             ap (λ r. take place changes ++ r) (sym (changes-next _ place (drop at bs) named) ∙ ap (λ n. changesFrom n place (drop at bs)) (sym steps)) ∙ before .read);
+              ap (λ f. f ++ changesFrom (64 - (place + 1)) (place + 1) (drop (at + 5) bs)) (take-more-set changes place _ within) ∙
+              moved (take place changes) _ _ _
+              (ap (λ b. take place changes ++ (Some (u32At bs (at + 1)) ∷ changesFrom (64 - (place + 1)) (place + 1) b)) (sym (drop-drop 5 at bs)) ∙
+              ap (λ w. take place changes ++ (Some w ∷ changesFrom (64 - (place + 1)) (place + 1) (drop 5 (drop at bs)))) (sym word) ∙
+              ap (λ r. take place changes ++ r) (sym (changes-next _ place (drop at bs) named) ∙ ap (λ n. changesFrom n place (drop at bs)) (sym steps)) ∙ before .read);
           left =
-            ap (λ b. leftFrom (64 - (place + 1)) (place + 1) b) (sym (drop-drop 5 at bs)) ∙ sym (left-next _ place (drop at bs) named) ∙ ap (λ n. leftFrom n place (drop at bs)) (sym steps) ∙ before .left;
+              ap (λ b. leftFrom (64 - (place + 1)) (place + 1) b) (sym (drop-drop 5 at bs)) ∙ sym (left-next _ place (drop at bs) named) ∙ ap (λ n. leftFrom n place (drop at bs)) (sym steps) ∙ before .left;
         }
 
   -- the same for what the loop holds after the turn

@@ -32,8 +32,8 @@ words-at at bs ws e h = words-are 64 (drop at bs) ws e (λ k i. h k i ∙ sym (u
 
 -- one word more
 pub words-more :
-  (bs : List ℕ) (at place : ℕ) (ws : List ℕ) (w : ℕ) → place < 64 → w ≡ u32At bs (at + 4 * place) →
-  (length ws ≡ 64) × ((k : ℕ) → k < place → getD ws k 0 ≡ u32At bs (at + 4 * k)) →
-  (length (set ws place w) ≡ 64) × ((k : ℕ) → k < place + 1 → getD (set ws place w) k 0 ≡ u32At bs (at + 4 * k))
+    (bs : List ℕ) (at place : ℕ) (ws : List ℕ) (w : ℕ) → place < 64 → w ≡ u32At bs (at + 4 * place) →
+    (length ws ≡ 64) × ((k : ℕ) → k < place → getD ws k 0 ≡ u32At bs (at + 4 * k)) →
+    (length (set ws place w) ≡ 64) × ((k : ℕ) → k < place + 1 → getD (set ws place w) k 0 ≡ u32At bs (at + 4 * k))
 words-more bs at place ws w h e inv =
     (length-set ws place w ∙ inv .0, rw e (fill-by-more (λ k. u32At bs (at + 4 * k)) ws place 0 (omega (arith, inv .0)) (inv .1)))

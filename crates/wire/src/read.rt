@@ -14,8 +14,11 @@ use model::Message;
 use model::Refusal;
 
 const STATIONS: u8 = 16;
+
 const PAGES: u16 = 1024;
+
 const LOCKS: u8 = 64;
+
 const PAGE_WORDS: usize = 64;
 // a change: its place and its word
 const CHANGE_BYTES: usize = 5;
@@ -50,7 +53,11 @@ fn page_request(bytes: &[u8]) -> Result<Message, Refusal>
     if station >= STATIONS || page >= PAGES {
         return Err(Refusal::Malformed);
     }
-    Ok(Message::PageRequest { station, page, number: u32_at(bytes, 4) })
+    Ok(Message::PageRequest {
+        station,
+        page,
+        number: u32_at(bytes, 4),
+    })
 }
 
 fn page_reply(bytes: &[u8]) -> Result<Message, Refusal>
@@ -64,7 +71,12 @@ fn page_reply(bytes: &[u8]) -> Result<Message, Refusal>
     if station >= STATIONS || page >= PAGES {
         return Err(Refusal::Malformed);
     }
-    Ok(Message::PageReply { station, page, number: u32_at(bytes, 4), words: words_at(bytes, 8) })
+    Ok(Message::PageReply {
+        station,
+        page,
+        number: u32_at(bytes, 4),
+        words: words_at(bytes, 8),
+    })
 }
 
 // The 64 words from a place on.
@@ -95,7 +107,12 @@ fn diff(bytes: &[u8]) -> Result<Message, Refusal>
     if end < bytes.len() {
         return Err(Refusal::Malformed);
     }
-    Ok(Message::Diff { station, number: u32_at(bytes, 2), page, changes })
+    Ok(Message::Diff {
+        station,
+        number: u32_at(bytes, 2),
+        page,
+        changes,
+    })
 }
 
 fn diff_applied(bytes: &[u8]) -> Result<Message, Refusal>
@@ -108,7 +125,10 @@ fn diff_applied(bytes: &[u8]) -> Result<Message, Refusal>
     if station >= STATIONS {
         return Err(Refusal::Malformed);
     }
-    Ok(Message::DiffApplied { station, number: u32_at(bytes, 2) })
+    Ok(Message::DiffApplied {
+        station,
+        number: u32_at(bytes, 2),
+    })
 }
 
 // The changes of a diff, place by place, and where the reading ended.
@@ -143,10 +163,28 @@ fn lock_message(bytes: &[u8]) -> Result<Message, Refusal>
         return Err(Refusal::Malformed);
     }
     let number = u32_at(bytes, 3);
-    Ok(match bytes[0] {
-        5 => Message::LockRequest { station, lock, number },
-        6 => Message::LockGranted { station, lock, number },
-        7 => Message::LockReleased { station, lock, number },
-        _ => Message::ReleaseTaken { station, lock, number },
-    })
+    Ok(
+        match bytes[0] {
+            5 => Message::LockRequest {
+                station,
+                lock,
+                number,
+            },
+            6 => Message::LockGranted {
+                station,
+                lock,
+                number,
+            },
+            7 => Message::LockReleased {
+                station,
+                lock,
+                number,
+            },
+            _ => Message::ReleaseTaken {
+                station,
+                lock,
+                number,
+            },
+        },
+    )
 }

@@ -14,14 +14,31 @@ pub fn encode(heap: Global, message: &Message) -> Result<Vec<u8>, AllocError>
     ensures { λ r. ⌜ made r (λ v. vec-items v ≡ bytesOf (now (message .entry))) ⌝ }
 {
     match *message {
-        Message::PageRequest { station, page, number } => Vec::from_slice(heap, &page_head(1, station, page, number)),
-        Message::PageReply { station, page, number, words } => {
+        Message::PageRequest {
+            station,
+            page,
+            number,
+        } => Vec::from_slice(heap, &page_head(1, station, page, number)),
+        Message::PageReply {
+            station,
+            page,
+            number,
+            words,
+        } => {
             let mut out = Vec::from_slice(heap, &page_head(2, station, page, number))?;
             push_words(&mut out, &words)?;
             Ok(out)
         }
-        Message::Diff { station, number, page, changes } => {
-            let mut out = Vec::from_slice(heap, &diff_head(station, number, page, change_count(&changes)))?;
+        Message::Diff {
+            station,
+            number,
+            page,
+            changes,
+        } => {
+            let mut out = Vec::from_slice(
+                heap,
+                &diff_head(station, number, page, change_count(&changes)),
+            )?;
             push_changes(&mut out, &changes)?;
             Ok(out)
         }
@@ -29,10 +46,26 @@ pub fn encode(heap: Global, message: &Message) -> Result<Vec<u8>, AllocError>
             let [a, b, c, d] = number.to_be_bytes();
             Vec::from_slice(heap, &[4, station, a, b, c, d])
         }
-        Message::LockRequest { station, lock, number } => Vec::from_slice(heap, &on_lock(5, station, lock, number)),
-        Message::LockGranted { station, lock, number } => Vec::from_slice(heap, &on_lock(6, station, lock, number)),
-        Message::LockReleased { station, lock, number } => Vec::from_slice(heap, &on_lock(7, station, lock, number)),
-        Message::ReleaseTaken { station, lock, number } => Vec::from_slice(heap, &on_lock(8, station, lock, number)),
+        Message::LockRequest {
+            station,
+            lock,
+            number,
+        } => Vec::from_slice(heap, &on_lock(5, station, lock, number)),
+        Message::LockGranted {
+            station,
+            lock,
+            number,
+        } => Vec::from_slice(heap, &on_lock(6, station, lock, number)),
+        Message::LockReleased {
+            station,
+            lock,
+            number,
+        } => Vec::from_slice(heap, &on_lock(7, station, lock, number)),
+        Message::ReleaseTaken {
+            station,
+            lock,
+            number,
+        } => Vec::from_slice(heap, &on_lock(8, station, lock, number)),
     }
 }
 

@@ -13,9 +13,9 @@ use crate::answer::Sent;
 use crate::answer::done;
 use crate::answer::refused;
 use crate::locks::Locks;
-use crate::locks::line::first_for;
 use crate::locks::line::still_waits;
-use crate::locks::line::waits_with;
+use crate::locks::line::take_first;
+use crate::locks::line::waits;
 use model::Holder;
 use model::Message;
 use model::Refusal;
@@ -28,7 +28,11 @@ impl Locks {
     pub fn new(heap: Global) -> Result<Locks, AllocError>
         ensures { λ r. ⌜ made r (λ t. tableOf t ≡ unlocked) ⌝ }
     {
-        Ok(Locks { requested: [0; 16], holders: [None; 64], waiting: Vec::with_capacity(heap, 16)? })
+        Ok(Locks {
+            requested: [0; 16],
+            holders: [None; 64],
+            waiting: Vec::with_capacity(heap, 16)?,
+        })
     }
 
     // A request that is new: granted if nobody holds the lock, else behind all that wait.
@@ -42,10 +46,18 @@ impl Locks {
         match self.holders[lock as usize] {
             None => {
                 self.holders[lock as usize] = Some(Holder { station, number });
-                done(Sent::One(Message::LockGranted { station, lock, number }))
+                done(Sent::One(Message::LockGranted {
+                    station,
+                    lock,
+                    number,
+                }))
             }
             Some(_) => {
-                self.waiting.push_reserved(Waiter { station, lock, number });
+                self.waiting.push_reserved(Waiter {
+                    station,
+                    lock,
+                    number,
+                });
                 done(Sent::Nothing)
             }
         }
@@ -58,11 +70,21 @@ impl Locks {
         ensures { λ r. ⌜ replyOf r (tableOf (now (self .exit))) ≡ requests (tableOf (now (self .entry))) station lock number ⌝ }
     {
         let last = self.requested[station as usize];
-        if number > last && number - last == 1 && waits_with(self.waiting.as_slice(), station).is_none() {
+        if number > last
+            && number - last == 1
+            && !waits(self.waiting.as_slice(), station)
+        {
             return self.admit(station, lock, number);
         }
         if number <= last && !still_waits(self.waiting.as_slice(), station, number) {
-            return refused(Refusal::StaleNumber, Sent::One(Message::LockGranted { station, lock, number }));
+            return refused(
+                Refusal::StaleNumber,
+                Sent::One(Message::LockGranted {
+                    station,
+                    lock,
+                    number,
+                }),
+            );
         }
         refused(Refusal::StaleNumber, Sent::Nothing)
     }
@@ -73,13 +95,12 @@ impl Locks {
         ensures { λ r. ⌜ replyOf r (tableOf (now (self .exit))) ≡ passedOn (tableOf (now (self .entry))) station lock number (firstFor lock (vec-items (now (self .entry) .waiting))) ⌝ }
     {
         let taken = Message::ReleaseTaken { station, lock, number };
-        match first_for(self.waiting.as_slice(), lock) {
+        match take_first(&mut self.waiting, lock) {
             None => {
                 self.holders[lock as usize] = None;
                 done(Sent::One(taken))
             }
-            Some(place) => {
-                let next = self.waiting.remove(place);
+            Some(next) => {
                 self.holders[lock as usize] = Some(Holder { station: next.station, number: next.number });
                 done(Sent::Two(taken, Message::LockGranted { station: next.station, lock, number: next.number }))
             }
@@ -95,8 +116,17 @@ impl Locks {
         if is_held_by(self.holders[lock as usize], station, number) {
             return self.pass_on(station, lock, number);
         }
-        if number <= self.requested[station as usize] && !still_waits(self.waiting.as_slice(), station, number) {
-            return refused(Refusal::StaleNumber, Sent::One(Message::ReleaseTaken { station, lock, number }));
+        if number <= self.requested[station as usize]
+            && !still_waits(self.waiting.as_slice(), station, number)
+        {
+            return refused(
+                Refusal::StaleNumber,
+                Sent::One(Message::ReleaseTaken {
+                    station,
+                    lock,
+                    number,
+                }),
+            );
         }
         refused(Refusal::StaleNumber, Sent::Nothing)
     }

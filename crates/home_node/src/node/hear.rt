@@ -21,16 +21,38 @@ use model::Refusal;
 use pages::page_words;
 use pages::patch;
 
-pub fn hear(words: &mut [u32], applied: &mut [u32; 16], locks: &mut Locks, message: &Message) -> Answer
+pub fn hear(
+    words: &mut [u32],
+    applied: &mut [u32; 16],
+    locks: &mut Locks,
+    message: &Message,
+) -> Answer
     requires whole { ⌜ length (now words) ≡ 65536 ⌝ }
     requires known { ⌜ Known (now message) ⌝ }
     ensures { λ r. ⌜ replyOf r (stateAt (now (words .exit)) (now (applied .exit)) (tableOf (now (locks .exit)))) ≡ hears (stateAt (now (words .entry)) (now (applied .entry)) (tableOf (now (locks .entry)))) (now (message .entry)) ⌝ }
 {
     match *message {
-        Message::PageRequest { station, page, number } => give_page(words, station, page, number),
-        Message::Diff { station, number, page, changes } => put_diff(words, applied, station, number, page, &changes),
-        Message::LockRequest { station, lock, number } => locks.request(station, lock, number),
-        Message::LockReleased { station, lock, number } => locks.release(station, lock, number),
+        Message::PageRequest {
+            station,
+            page,
+            number,
+        } => give_page(words, station, page, number),
+        Message::Diff {
+            station,
+            number,
+            page,
+            changes,
+        } => put_diff(words, applied, station, number, page, &changes),
+        Message::LockRequest {
+            station,
+            lock,
+            number,
+        } => locks.request(station, lock, number),
+        Message::LockReleased {
+            station,
+            lock,
+            number,
+        } => locks.release(station, lock, number),
         // these go to stations
         Message::PageReply { .. }
         | Message::DiffApplied { .. }
@@ -46,13 +68,25 @@ fn give_page(words: &[u32], station: u8, page: u16, number: u32) -> Answer
     ensures { λ r. ⌜ r ≡ record { refusal = None; sent = One (PageReply station page number (pageAt page (memory (now (words .entry))))) } ⌝ }
 {
     match page_words(words, page) {
-        Ok(words) => done(Sent::One(Message::PageReply { station, page, number, words })),
+        Ok(words) => done(Sent::One(Message::PageReply {
+            station,
+            page,
+            number,
+            words,
+        })),
         Err(why) => refused(why, Sent::Nothing),
     }
 }
 
 // A diff is put in if its number is the next one of its station; an earlier one is only answered again.
-fn put_diff(words: &mut [u32], applied: &mut [u32; 16], station: u8, number: u32, page: u16, changes: &[Option<u32>; 64]) -> Answer
+fn put_diff(
+    words: &mut [u32],
+    applied: &mut [u32; 16],
+    station: u8,
+    number: u32,
+    page: u16,
+    changes: &[Option<u32>; 64],
+) -> Answer
     requires whole { ⌜ length (now words) ≡ 65536 ⌝ }
     requires station_known { ⌜ station < 16 ⌝ }
     requires page_known { ⌜ page < 1024 ⌝ }

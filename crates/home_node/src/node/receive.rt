@@ -14,9 +14,9 @@ ghost use Rattle.home_node.specs.Homes.{homeOf, Onward};
 use crate::answer::Answer;
 use crate::answer::Sent;
 use crate::answer::refused;
+use crate::locks::Locks;
 use crate::node::Home;
 use crate::node::hear::hear;
-use crate::locks::Locks;
 use model::Refusal;
 use std::alloc::AllocError;
 use std::alloc::Global;
@@ -29,7 +29,11 @@ impl Home {
     {
         let words = vec![in heap; 0; 65536]?;
         let locks = Locks::new(heap)?;
-        Ok(Home { words, applied: [0; 16], locks })
+        Ok(Home {
+            words,
+            applied: [0; 16],
+            locks,
+        })
     }
 
     // A word as it is now.
@@ -48,7 +52,12 @@ impl Home {
         ensures promises { λ _. ⌜ ∥ ((seen : List (List ℕ)) × Onward (homeOf (now (self .entry))) (homeOf (now (self .exit))) (now (bytes .entry)) seen) ∥₁ ⌝ }
     {
         match decode(bytes) {
-            Ok(message) => hear(self.words.as_mut_slice(), &mut self.applied, &mut self.locks, &message),
+            Ok(message) => hear(
+                self.words.as_mut_slice(),
+                &mut self.applied,
+                &mut self.locks,
+                &message,
+            ),
             Err(why) => refused(why, Sent::Nothing),
         }
     }

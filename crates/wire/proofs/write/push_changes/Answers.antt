@@ -8,11 +8,12 @@ use Rattle.wire.proofs.write.push_changes.Needs.{in-Some·in-Continue-extend-f
 pub loop-place-again : need.loop-place-again
 loop-place-again c =
     let k = c .loop-place in
-    elim (c .match-changes-place .came)
-    [ in-Some·in-Continue-extend-from-slice w ↦
-        some-more (c .args .changes .now) (k .place) _ _ (k .inv) _ _ _ (omega arith) (w .in-Some .is) (w .change-bytes .ensures) (ap vec-items (w .out-is) ∙ w .in-Continue-extend-from-slice .ensures tt .items)
-    | in-rest w ↦
-        none-more (c .args .changes .now) (k .place) _ _ (k .inv) _ (omega arith) (w .in-rest .not-Some) (ap vec-items (w .out-is)) ]
+    elim (c .match-changes-place .came) [
+      | in-Some·in-Continue-extend-from-slice w ↦
+          some-more (c .args .changes .now) (k .place) _ _ (k .inv) _ _ _ (omega arith) (w .in-Some .is) (w .change-bytes .ensures) (ap vec-items (w .out-is) ∙ w .in-Continue-extend-from-slice .ensures tt .items)
+      | in-rest w ↦
+          none-more (c .args .changes .now) (k .place) _ _ (k .inv) _ (omega arith) (w .in-rest .not-Some) (ap vec-items (w .out-is))
+    ]
 
 pub returns : need.returns
 returns c =

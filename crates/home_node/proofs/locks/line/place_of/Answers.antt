@@ -1,6 +1,6 @@
 use native.Mathlib.Omega.{arith}
 use Rattle.home_node.proofs.Lines.{none-at-first, found-here, none-here, none-at-all}
-use Rattle.home_node.proofs.locks.line.first_for.Needs as need
+use Rattle.home_node.proofs.locks.line.place_of.Needs as need
 
 pub loop-place-holds : need.loop-place-holds
 loop-place-holds c = none-at-first _ _
