@@ -25,8 +25,8 @@ abbrev tabled : List ℕ → List (Option Holder) → List Waiter → LockTable
 tabled requested holders ws = record { requested = λ s. getD requested s 0; holder = λ l. getD holders l None; waiting = ws }
 
 pub nobody-next :
-  (l : ℕ) (ws rest : List Waiter) (requested : List ℕ) (holders : List (Option Holder)) (s n : ℕ) (answer : Answer) → None ≡ firstFor l ws → rest ≡ ws → l < length holders →
-  answer ≡ record { refusal = None; sent = One (ReleaseTaken s l n) } →
-  replyOf answer (tabled requested (set holders l None) rest) ≡ passedOn (tabled requested holders ws) s l n (firstFor l ws)
+    (l : ℕ) (ws rest : List Waiter) (requested : List ℕ) (holders : List (Option Holder)) (s n : ℕ) (answer : Answer) → None ≡ firstFor l ws → rest ≡ ws → l < length holders →
+    answer ≡ record { refusal = None; sent = One (ReleaseTaken s l n) } →
+    replyOf answer (tabled requested (set holders l None) rest) ≡ passedOn (tabled requested holders ws) s l n (firstFor l ws)
 nobody-next l ws rest requested holders s n answer e f h a =
     rw (a, ← e) (ap (done _) (same-table refl (put-set None None holders l h) f))

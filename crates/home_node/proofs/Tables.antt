@@ -9,13 +9,18 @@ use lib.Dec.{eqb}
 use lib.ListN.{length, getD, set, replicate}
 use Rattle.std.specs.declared.option.Option.{Option}
 use Rattle.std.specs.declared.option.Option.the-variants.{Some, None}
-use Rattle.std.proofs.shelf.Lists.{getD-set-same, getD-set-other}
+use Rattle.std.proofs.shelf.Lists.{getD-set-same, getD-set-other, length-replicate}
+use Rattle.std.specs.Of.Vec.{vec-items, vec-len}
+use Rattle.std.specs.declared.alloc.Global.{Global}
+use Rattle.std.specs.declared.vec.Vec.{Vec}
 use Rattle.std.proofs.shelf.Ways.{eqb-tells}
 use Rattle.model.specs.declared.Holder.{Holder}
 use Rattle.model.specs.declared.Waiter.{Waiter}
 use Rattle.model.specs.Sizes.{put}
 use Rattle.model.specs.Home.{HomeState, homeAfter, fresh}
-use Rattle.model.specs.Locks.{LockTable}
+use Rattle.model.specs.Locks.{LockTable, unlocked}
+use Rattle.home_node.specs.declared.locks.Locks.{Locks}
+use Rattle.home_node.specs.Tables.{stateOf, tableOf}
 
 -- one entry written
 put-at : {A : Type 0} (d x : A) (xs : List A) (i : ℕ) → i < length xs → (j : ℕ) → getD (set xs i x) j d ≡ put i x (λ k. getD xs k d) j
@@ -34,6 +39,9 @@ fill-at d (suc n) (suc j) = fill-at d n j
 pub filled : {A : Type 0} (d : A) (n : ℕ) → _≡_ {A = ℕ → A} (λ j. getD (replicate n d) j d) (λ j. d)
 filled d n = fun-ext (fill-at d n)
 
+one-value : {A : Type 0} {d : A} {xs : List A} (n : ℕ) → xs ≡ replicate n d → _≡_ {A = ℕ → A} (λ j. getD xs j d) (λ j. d)
+one-value n e = rw e (filled _ n)
+
 -- lock tables with the same parts
 pub same-table : {r r′ : ℕ → ℕ} {h h′ : ℕ → Option Holder} {w w′ : List Waiter} → r ≡ r′ → h ≡ h′ → w ≡ w′ → _≡_ {A = LockTable} (record { requested = r; holder = h; waiting = w }) (record { requested = r′; holder = h′; waiting = w′ })
 same-table e f g = rw (e, f, g)
@@ -43,9 +51,16 @@ pub same-home :
     _≡_ {A = HomeState} (record { words = w; applied = a; locks = l }) (record { words = w′; applied = a′; locks = l′ })
 same-home e f g = rw (e, f, g)
 
--- a table that holds one value all over
-pub all-one : {A : Type 0} (d : A) (n : ℕ) (xs : List A) → xs ≡ replicate n d → _≡_ {A = ℕ → A} (λ j. getD xs j d) (λ j. d)
-all-one d n xs e = rw e (filled d n)
+-- a home of blank tables is fresh
+module _ (words : Vec ℕ Global) (applied : List ℕ) (locks : Locks) (w : vec-items words ≡ replicate 65536 0) (a : applied ≡ replicate 16 0) (l : tableOf locks ≡ unlocked) where
+  pub blank-home : stateOf words applied locks ≡ fresh
+  blank-home = same-home (one-value 65536 w) (one-value 16 a) l
+
+as-long : {xs : List ℕ} (n : ℕ) → xs ≡ replicate n 0 → length xs ≡ n
+as-long n e = ap length e ∙ length-replicate {A = ℕ} n 0
+
+pub blank-words : (words : Vec ℕ Global) → vec-items words ≡ replicate 65536 0 → vec-len words ≡ 65536
+blank-words words w = words .ok .0 ∙ as-long 65536 w
 
 pub at-first : homeAfter [] ≡ fresh
 unfolding homeAfter

@@ -70,10 +70,7 @@ impl Locks {
         ensures { λ r. ⌜ replyOf r (tableOf (now (self .exit))) ≡ requests (tableOf (now (self .entry))) station lock number ⌝ }
     {
         let last = self.requested[station as usize];
-        if number > last
-            && number - last == 1
-            && !waits(self.waiting.as_slice(), station)
-        {
+        if number > last && number - last == 1 && !waits(self.waiting.as_slice(), station) {
             return self.admit(station, lock, number);
         }
         if number <= last && !still_waits(self.waiting.as_slice(), station, number) {
@@ -94,15 +91,29 @@ impl Locks {
         requires lock_known { ⌜ lock < 64 ⌝ }
         ensures { λ r. ⌜ replyOf r (tableOf (now (self .exit))) ≡ passedOn (tableOf (now (self .entry))) station lock number (firstFor lock (vec-items (now (self .entry) .waiting))) ⌝ }
     {
-        let taken = Message::ReleaseTaken { station, lock, number };
+        let taken = Message::ReleaseTaken {
+            station,
+            lock,
+            number,
+        };
         match take_first(&mut self.waiting, lock) {
             None => {
                 self.holders[lock as usize] = None;
                 done(Sent::One(taken))
             }
             Some(next) => {
-                self.holders[lock as usize] = Some(Holder { station: next.station, number: next.number });
-                done(Sent::Two(taken, Message::LockGranted { station: next.station, lock, number: next.number }))
+                self.holders[lock as usize] = Some(Holder {
+                    station: next.station,
+                    number: next.number,
+                });
+                done(Sent::Two(
+                    taken,
+                    Message::LockGranted {
+                        station: next.station,
+                        lock,
+                        number: next.number,
+                    },
+                ))
             }
         }
     }

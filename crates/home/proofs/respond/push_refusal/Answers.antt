@@ -1,0 +1,7 @@
+use mathlib.Core.Path.{_∙_}
+use Rattle.home.proofs.Pieces.{refusal-written}
+use Rattle.home.proofs.respond.push_refusal.Needs as need
+
+pub returns : need.returns
+returns c =
+    refusal-written _ _ _ _ (c .args .why) (c .from .ensures ∙ c .number .ensures) (c .in-Continue-extend-from-slice .ensures tt .items) (c .in-Continue-push-value .ensures tt)

@@ -1,0 +1,5 @@
+use borrow.Author.Needs.{needs}
+use Rattle.home.proofs.respond.push_refusals.Needs as need
+
+pub returns-in-Some : need.returns-in-Some
+returns-in-Some c = rw (c .in-Some .is) (c .push-refusal .ensures)

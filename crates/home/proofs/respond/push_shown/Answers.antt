@@ -1,0 +1,7 @@
+use Rattle.home_node.specs.Homes.{homeOf}
+use Rattle.home.proofs.Pieces.{as-written, not-shown}
+use Rattle.home.proofs.respond.push_shown.Needs as need
+
+pub returns-in-Err : need.returns-in-Err
+returns-in-Err c =
+    as-written (c .push-refusal .result) _ _ _ _ (not-shown (homeOf (c .args .home .now)) (c .args .word) (c .in-Err .why) (c .in-Err .ensures tt)) (c .push-refusal .ensures)

@@ -1,0 +1,13 @@
+use Rattle.home_node.specs.Homes.{homeOf}
+use Rattle.text.specs.Line.{meaningOf}
+use Rattle.home.proofs.Pieces.{not-read, not-followed}
+use Rattle.home.proofs.respond.respond.Needs as need
+
+pub returns-in-Err : need.returns-in-Err
+returns-in-Err c =
+    let h = homeOf (c .args .home .now) in
+    let m = meaningOf (c .args .input .now) in
+    record {
+      printed = not-read (c .in-Err .fault) m h (c .in-Err .ensures tt) (c .push-fault .result) _ _ (c .push-fault .ensures);
+      after = not-followed (c .in-Err .fault) m h (c .in-Err .ensures tt) (c .push-fault .result) _ _ (c .push-fault .ensures);
+    }

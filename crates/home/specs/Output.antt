@@ -1,0 +1,57 @@
+-- What the program `home` prints for a line, and the home afterwards. Assumes nothing.
+use mathlib.Core.Bool.{cond}
+use mathlib.Core.List.{List, [], _∷_, _++_}
+use Prim.Native.Nat.{ℕ}
+use lib.Chars.{codes}
+use Rattle.std.specs.Joined.{joined}
+use Rattle.std.specs.Written.{decimal}
+use Rattle.std.specs.declared.option.Option.{Option}
+use Rattle.std.specs.declared.option.Option.the-variants.{Some, None}
+use Rattle.model.specs.declared.Message.{Message}
+use Rattle.model.specs.declared.Refusal.{Refusal}
+use Rattle.model.specs.declared.Refusal.the-variants.{Malformed}
+use Rattle.model.specs.Bytes.{bytesOf}
+use Rattle.model.specs.Home.{HomeState, receives}
+use Rattle.model.specs.Refusals.{numberOf}
+use Rattle.model.specs.Replies.{Reply}
+use Rattle.model.specs.Sizes.{isWord}
+use Rattle.home_node.specs.declared.answer.Answer.{Answer}
+use Rattle.home_node.specs.Answers.{sentOf}
+use Rattle.text.specs.Hex.{hexOf}
+use Rattle.text.specs.Line.{Meaning, Nothing, ShowWord, Bytes}
+
+-- text as a line of output
+abbrev pub line : List ℕ → List ℕ
+line text = text ++ 10 ∷ []
+
+abbrev pub refusalLine : Refusal → List ℕ
+refusalLine why = codes "turned away " ++ line (decimal (numberOf why))
+
+abbrev pub refusalLines : Option Refusal → List ℕ
+refusalLines None = []
+refusalLines (Some why) = refusalLine why
+
+abbrev pub messageLine : Message → List ℕ
+messageLine m = line (hexOf (bytesOf m))
+
+abbrev pub messageLines : List Message → List ℕ
+messageLines ms = joined messageLine ms
+
+-- a refusal first, then what is sent
+abbrev pub answerLines : Answer → List ℕ
+answerLines a = refusalLines (a .refusal) ++ messageLines (sentOf (a .sent))
+
+abbrev pub replyLines : Reply HomeState → List ℕ
+replyLines r = refusalLines (r .refusal) ++ messageLines (r .sent)
+
+abbrev pub shown : HomeState → Option Meaning → List ℕ
+shown h None = refusalLine Malformed
+shown h (Some Nothing) = []
+shown h (Some (ShowWord w)) = cond (isWord w) (line (decimal (h .words w))) (refusalLine Malformed)
+shown h (Some (Bytes bytes)) = replyLines (receives h bytes)
+
+abbrev pub followed : HomeState → Option Meaning → HomeState
+followed h None = h
+followed h (Some Nothing) = h
+followed h (Some (ShowWord w)) = h
+followed h (Some (Bytes bytes)) = receives h bytes .after

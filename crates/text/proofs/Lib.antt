@@ -1,0 +1,2 @@
+mod HexSteps
+mod NumberSteps

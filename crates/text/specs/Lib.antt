@@ -1,0 +1,4 @@
+pub mod Faults
+pub mod Hex
+pub mod Line
+pub mod Number
