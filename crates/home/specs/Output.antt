@@ -13,10 +13,7 @@ use Rattle.model.specs.declared.Refusal.the-variants.{Malformed}
 use Rattle.model.specs.Bytes.{bytesOf}
 use Rattle.model.specs.Home.{HomeState, receives}
 use Rattle.model.specs.Refusals.{numberOf}
-use Rattle.model.specs.Replies.{Reply}
 use Rattle.model.specs.Sizes.{isWord}
-use Rattle.home_node.specs.declared.answer.Answer.{Answer}
-use Rattle.home_node.specs.Answers.{sentOf}
 use Rattle.text.specs.Hex.{hexOf}
 use Rattle.text.specs.Line.{Meaning, Nothing, ShowWord, Bytes}
 
@@ -38,17 +35,14 @@ abbrev pub messageLines : List Message → List ℕ
 messageLines ms = joined messageLine ms
 
 -- a refusal first, then what is sent
-abbrev pub answerLines : Answer → List ℕ
-answerLines a = refusalLines (a .refusal) ++ messageLines (sentOf (a .sent))
-
-abbrev pub replyLines : Reply HomeState → List ℕ
-replyLines r = refusalLines (r .refusal) ++ messageLines (r .sent)
+abbrev pub answerLines : Option Refusal → List Message → List ℕ
+answerLines refusal sent = refusalLines refusal ++ messageLines sent
 
 abbrev pub shown : HomeState → Option Meaning → List ℕ
 shown h None = refusalLine Malformed
 shown h (Some Nothing) = []
 shown h (Some (ShowWord w)) = cond (isWord w) (line (decimal (h .words w))) (refusalLine Malformed)
-shown h (Some (Bytes bytes)) = replyLines (receives h bytes)
+shown h (Some (Bytes bytes)) = answerLines (receives h bytes .refusal) (receives h bytes .sent)
 
 abbrev pub followed : HomeState → Option Meaning → HomeState
 followed h None = h

@@ -74,7 +74,7 @@ fn push_shown(home: &Home, word: u32, out: &mut Vec<u8>) -> Result<(), Fault>
 
 // A refusal first, then what is sent.
 fn push_answer(heap: Global, answer: &Answer, out: &mut Vec<u8>) -> Result<(), Fault>
-    ensures { λ r. ⌜ made r (λ _. vec-items (now (out .exit)) ≡ vec-items (now (out .entry)) ++ answerLines (now (answer .entry))) ⌝ }
+    ensures { λ r. ⌜ made r (λ _. vec-items (now (out .exit)) ≡ vec-items (now (out .entry)) ++ answerLines (now (answer .entry) .refusal) (sentOf (now (answer .entry) .sent))) ⌝ }
 {
     push_refusals(out, answer.refusal)?;
     push_messages(heap, out, &answer.sent)?;

@@ -1,4 +1,5 @@
 pub mod Tables
 pub mod Lines
+pub mod Once
 pub mod Passing
 pub mod Onward

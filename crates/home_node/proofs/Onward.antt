@@ -3,6 +3,7 @@ use mathlib.Core.Path.{_≡_, refl, sym, ap, _∙_}
 use mathlib.Core.Logic.{∥∥₁-elim, ∥∥₁-prop}
 use mathlib.Core.List.{List, [], _∷_}
 use Prim.Native.Nat.{ℕ}
+use Rattle.std.specs.declared.option.Option.the-variants.{Some}
 use Rattle.std.specs.declared.result.Result.{Result}
 use Rattle.std.specs.declared.result.Result.the-variants.{Ok, Err}
 use Rattle.model.specs.declared.Message.{Message}
@@ -11,6 +12,7 @@ use Rattle.model.specs.Bytes.{parse}
 use Rattle.model.specs.Home.{HomeState, hears, hearsRead, receives, homeAfter}
 use Rattle.model.specs.Replies.{Reply, refused}
 use Rattle.promise.proofs.All.{all-kept}
+use Rattle.promise.proofs.Refused.{refused-keeps}
 use Rattle.std.specs.Of.Vec.{vec-items}
 use Rattle.std.specs.Changed.{refilled}
 use Rattle.std.specs.declared.alloc.Global.{Global}
@@ -28,6 +30,10 @@ answered h bytes m e f = f ∙ ap (hearsRead h) e
 
 pub turned-away : {r : Reply HomeState} (h : HomeState) (bytes : List ℕ) (why : Refusal) → Err why ≡ parse bytes → r ≡ refused why [] h → r ≡ receives h bytes
 turned-away h bytes why e f = f ∙ ap (hearsRead h) e
+
+-- a refusal leaves the home as it was
+pub as-it-was : (answer : Answer) (h after : HomeState) (bytes : List ℕ) → replyOf answer after ≡ receives h bytes → (why : Refusal) → answer .refusal ≡ Some why → after ≡ h
+as-it-was answer h after bytes a why e = ap (λ r. r .after) a ∙ refused-keeps h bytes why (sym (ap (λ r. r .refusal) a) ∙ e)
 
 next : (bytes : List ℕ) (seen : List (List ℕ)) → receives (homeAfter seen) bytes .after ≡ homeAfter (bytes ∷ seen)
 unfolding homeAfter

@@ -1,25 +1,20 @@
--- A lock given back: the line stays one in which each station waits once, and where nobody waits for the lock nobody holds it.
-use mathlib.Core.Path.{_≡_, refl, sym, ap, subst}
-use mathlib.Core.List.{List, [], _∷_}
+-- A lock given back for which nobody waits: nobody holds it.
+use mathlib.Core.Path.{_≡_, refl, ap}
+use mathlib.Core.List.{List}
 use Prim.Native.Nat.{ℕ, _<_}
-use lib.Dec.{T}
 use lib.ListN.{length, getD, set}
 use Rattle.std.specs.declared.option.Option.{Option}
-use Rattle.std.specs.declared.option.Option.the-variants.{Some, None}
+use Rattle.std.specs.declared.option.Option.the-variants.{None}
+use Rattle.model.proofs.Tables.{put-set}
 use Rattle.model.specs.declared.Holder.{Holder}
 use Rattle.model.specs.declared.Waiter.{Waiter}
 use Rattle.model.specs.declared.Message.the-variants.{ReleaseTaken}
-use Rattle.model.specs.Locks.{LockTable, firstFor, withoutFirst, passedOn}
+use Rattle.model.specs.Locks.{LockTable, firstFor, passedOn}
 use Rattle.model.specs.Replies.{done}
-use Rattle.promise.specs.Home.{apart}
-use Rattle.promise.proofs.Queue.{apart-without}
 use Rattle.home_node.specs.declared.answer.Answer.{Answer}
 use Rattle.home_node.specs.declared.answer.Sent.the-variants.{One}
 use Rattle.home_node.specs.Answers.{replyOf}
-use Rattle.home_node.proofs.Tables.{put-set, same-table}
-
-pub still-once : (l : ℕ) (ws rest : List Waiter) → rest ≡ withoutFirst l ws → T (apart ws) → T (apart rest)
-still-once l ws rest e h = let P : List Waiter → Type 0 = λ v. T (apart v) in subst P (sym e) (apart-without ws l h)
+use Rattle.home_node.proofs.Tables.{same-table}
 
 abbrev tabled : List ℕ → List (Option Holder) → List Waiter → LockTable
 tabled requested holders ws = record { requested = λ s. getD requested s 0; holder = λ l. getD holders l None; waiting = ws }

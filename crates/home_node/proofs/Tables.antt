@@ -1,43 +1,20 @@
--- Tables of the code as functions: one entry written is one entry replaced.
-use mathlib.Core.Path.{_≡_, refl, sym, ap, _∙_, fun-ext}
-use mathlib.Core.Bool.{cond}
-use mathlib.Core.Logic.{inl, inr}
-use mathlib.Core.List.{List, [], _∷_}
-use Prim.Native.Nat.{ℕ, zero, suc, _<_}
-use native.Mathlib.Omega.{arith}
-use lib.Dec.{eqb}
-use lib.ListN.{length, getD, set, replicate}
-use Rattle.std.specs.declared.option.Option.{Option}
-use Rattle.std.specs.declared.option.Option.the-variants.{Some, None}
-use Rattle.std.proofs.shelf.Lists.{getD-set-same, getD-set-other, length-replicate}
+-- The code's tables as states of the rules: tables with the same parts, and blank ones.
+use mathlib.Core.Path.{_≡_, refl, ap, _∙_}
+use mathlib.Core.List.{List, []}
+use Prim.Native.Nat.{ℕ}
+use lib.ListN.{length, getD, replicate}
+use Rattle.std.proofs.shelf.Lists.{length-replicate}
 use Rattle.std.specs.Of.Vec.{vec-items, vec-len}
 use Rattle.std.specs.declared.alloc.Global.{Global}
+use Rattle.std.specs.declared.option.Option.{Option}
 use Rattle.std.specs.declared.vec.Vec.{Vec}
-use Rattle.std.proofs.shelf.Ways.{eqb-tells}
+use Rattle.model.proofs.Tables.{filled}
 use Rattle.model.specs.declared.Holder.{Holder}
 use Rattle.model.specs.declared.Waiter.{Waiter}
-use Rattle.model.specs.Sizes.{put}
 use Rattle.model.specs.Home.{HomeState, homeAfter, fresh}
 use Rattle.model.specs.Locks.{LockTable, unlocked}
 use Rattle.home_node.specs.declared.locks.Locks.{Locks}
 use Rattle.home_node.specs.Tables.{stateOf, tableOf}
-
--- one entry written
-put-at : {A : Type 0} (d x : A) (xs : List A) (i : ℕ) → i < length xs → (j : ℕ) → getD (set xs i x) j d ≡ put i x (λ k. getD xs k d) j
-put-at d x xs i h j =
-    elim (eqb-tells j i) [ inl t ↦ rw (t .0) (rw (t .1) (getD-set-same xs i x d h)) | inr t ↦ rw (t .0) (getD-set-other xs i j x d (t .1)) ]
-
-pub put-set : {A : Type 0} (d x : A) (xs : List A) (i : ℕ) → i < length xs → _≡_ {A = ℕ → A} (λ j. getD (set xs i x) j d) (put i x (λ j. getD xs j d))
-put-set d x xs i h = fun-ext (put-at d x xs i h)
-
--- a table of one value
-fill-at : {A : Type 0} (d : A) (n j : ℕ) → getD (replicate n d) j d ≡ d
-fill-at d zero j = refl
-fill-at d (suc n) zero = refl
-fill-at d (suc n) (suc j) = fill-at d n j
-
-pub filled : {A : Type 0} (d : A) (n : ℕ) → _≡_ {A = ℕ → A} (λ j. getD (replicate n d) j d) (λ j. d)
-filled d n = fun-ext (fill-at d n)
 
 one-value : {A : Type 0} {d : A} {xs : List A} (n : ℕ) → xs ≡ replicate n d → _≡_ {A = ℕ → A} (λ j. getD xs j d) (λ j. d)
 one-value n e = rw e (filled _ n)

@@ -13,6 +13,7 @@ use Rattle.std.proofs.shelf.Lists.{append-nil, drop-more, drop-drop, drop-all, 
 use Rattle.std.proofs.shelf.Tests.{cases-lt}
 use Rattle.std.proofs.shelf.Ways.{tells}
 use mathlib.Core.Logic.{inl, inr}
+use Rattle.model.proofs.Tables.{fill-at}
 use Rattle.model.specs.Bytes.{u32At, isNext, changesFrom, leftFrom}
 use Rattle.wire.proofs.Words.{u32-drop}
 
@@ -108,13 +109,8 @@ module _ (bs : List ℕ) (place at : ℕ) (changes : List (Option ℕ)) (before 
   now-other h p q = rw (p, q) (passed (not-next bs at place h))
 
 -- at first nothing is read, and at the end all is
-none-yet : (n k : ℕ) → getD (replicate {A = Option ℕ} n None) k None ≡ None
-none-yet zero k = refl
-none-yet (suc n) zero = refl
-none-yet (suc n) (suc k) = none-yet n k
-
 pub at-first : (bs : List ℕ) → 9 ≤ length bs → (length bs - 9) % 5 ≡ 0 → SoFar bs 0 9 (replicate 64 None)
-at-first bs l f = record { long = refl; inside = l; fives = f; blank = λ k z. none-yet 64 k; read = refl; left = refl }
+at-first bs l f = record { long = refl; inside = l; fives = f; blank = λ k z. fill-at None 64 k; read = refl; left = refl }
 
 changes-none : (place : ℕ) (bs : List ℕ) → changesFrom 0 place bs ≡ []
 unfolding changesFrom

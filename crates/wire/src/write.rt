@@ -1,7 +1,6 @@
 // Messages written as bytes, high byte first.
-ghost use mathlib.Core.List.{List, _∷_, _++_, []};
+ghost use mathlib.Core.List.{_∷_, _++_, []};
 ghost use mathlib.Core.Path.{_≡_};
-ghost use Prim.Native.Nat.{_≤_};
 ghost use Rattle.std.specs.Of.Vec.{vec-items};
 ghost use Rattle.std.specs.Vec.{made};
 ghost use Rattle.model.specs.Bytes.{bytesOf, u16Bytes, u32Bytes, wordBytes, changeBytes, changeCount};

@@ -6,6 +6,7 @@ ghost use Prim.Native.Nat.{ℕ};
 ghost use lib.ListN.{replicate};
 ghost use Rattle.std.specs.Of.Vec.{vec-items};
 ghost use Rattle.std.specs.Vec.{made};
+ghost use Rattle.std.specs.declared.option.Option.the-variants.{Some};
 ghost use Rattle.std.specs.declared.result.Result.the-variants.{Ok, Err};
 ghost use Rattle.model.specs.declared.Refusal.the-variants.{Malformed};
 ghost use Rattle.model.specs.Bytes.{parse};
@@ -49,9 +50,10 @@ impl Home {
         Ok(self.words[word as usize])
     }
 
-    // Any bytes at all: done or refused as the rules say, and every promise of the home is kept afterwards.
+    // Any bytes at all: done or refused as the rules say. A refusal changes nothing, and every promise of the home is kept afterwards.
     pub fn receive(&mut self, bytes: &[u8]) -> Answer
         ensures answer { λ r. ⌜ replyOf r (homeOf (now (self .exit))) ≡ receives (homeOf (now (self .entry))) (now (bytes .entry)) ⌝ }
+        ensures unchanged { λ r. ⌜ ((why : Refusal) → r .refusal ≡ Some why → homeOf (now (self .exit)) ≡ homeOf (now (self .entry))) ⌝ }
         ensures promises { λ _. ⌜ ∥ ((seen : List (List ℕ)) × Onward (homeOf (now (self .entry))) (homeOf (now (self .exit))) (now (bytes .entry)) seen) ∥₁ ⌝ }
     {
         self.hear_read(bytes, decode(bytes))
@@ -61,6 +63,7 @@ impl Home {
     fn hear_read(&mut self, bytes: &[u8], read: Result<Message, Refusal>) -> Answer
         requires { ⌜ read ≡ parse (now bytes) ⌝ }
         ensures answer { λ r. ⌜ replyOf r (homeOf (now (self .exit))) ≡ receives (homeOf (now (self .entry))) (now (bytes .entry)) ⌝ }
+        ensures unchanged { λ r. ⌜ ((why : Refusal) → r .refusal ≡ Some why → homeOf (now (self .exit)) ≡ homeOf (now (self .entry))) ⌝ }
         ensures promises { λ _. ⌜ ∥ ((seen : List (List ℕ)) × Onward (homeOf (now (self .entry))) (homeOf (now (self .exit))) (now (bytes .entry)) seen) ∥₁ ⌝ }
     {
         match read {

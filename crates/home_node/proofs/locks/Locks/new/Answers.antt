@@ -1,6 +1,7 @@
 use mathlib.Core.List.{[]}
 use Rattle.std.specs.declared.option.Option.the-variants.{None}
-use Rattle.home_node.proofs.Tables.{filled, same-table}
+use Rattle.model.proofs.Tables.{filled}
+use Rattle.home_node.proofs.Tables.{same-table}
 use Rattle.home_node.proofs.locks.Locks.new.Needs as need
 
 pub returns : need.returns

@@ -1,7 +1,8 @@
 use mathlib.Core.Path.{_∙_, refl}
 use native.Mathlib.Omega.{arith}
 use Rattle.std.proofs.shelf.Lists.{length-set}
-use Rattle.home_node.proofs.Passing.{still-once, nobody-next}
+use Rattle.home_node.proofs.Once.{still-once}
+use Rattle.home_node.proofs.Passing.{nobody-next}
 use Rattle.home_node.proofs.locks.Locks.pass_on.Needs as need
 
 pub ghost-self : need.ghost-self
