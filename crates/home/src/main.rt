@@ -8,7 +8,6 @@ use std::io::BufRead;
 use std::io::BufReader;
 use std::io::BufWriter;
 use std::io::Write;
-use text::Fault;
 
 // Answers line by line until the input ends. What is printed is written out before the program waits for more input.
 fn run(rt: &LibcRuntime) -> Result<(), AnyError> {

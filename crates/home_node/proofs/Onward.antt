@@ -4,7 +4,6 @@ use mathlib.Core.Logic.{∥∥₁-elim, ∥∥₁-prop}
 use mathlib.Core.List.{List, [], _∷_}
 use Prim.Native.Nat.{ℕ}
 use Rattle.std.specs.declared.option.Option.the-variants.{Some}
-use Rattle.std.specs.declared.result.Result.{Result}
 use Rattle.std.specs.declared.result.Result.the-variants.{Ok, Err}
 use Rattle.model.specs.declared.Message.{Message}
 use Rattle.model.specs.declared.Refusal.{Refusal}

@@ -3,6 +3,17 @@
 ghost use mathlib.Core.Path.{_≡_};
 ghost use Rattle.model.specs.Refusals.{numberOf};
 
+// How much there is of everything; `specs/Sizes` has the same numbers for the rules.
+pub const STATIONS: u8 = 16;
+
+pub const LOCKS: u8 = 64;
+
+pub const PAGES: u16 = 1024;
+
+pub const PAGE_WORDS: usize = 64;
+
+pub const WORDS: usize = 65536;
+
 // Why a message or a call is refused. The lowest number that applies is given.
 #[derive(Clone, Copy, PartialEq, Debug)]
 pub enum Refusal {

@@ -1,22 +1,18 @@
 -- A page's part of lent words: what it holds, and the words after it was written.
-use mathlib.Core.Path.{_≡_, refl, sym, ap, _∙_, fun-ext}
-use mathlib.Core.Bool.{cond, true, false}
+use mathlib.Core.Path.{_≡_, sym, ap, _∙_, fun-ext}
 use mathlib.Core.Logic.{inl, inr}
-use mathlib.Core.List.{List, map, _++_}
+use mathlib.Core.List.{List, _++_}
 use Prim.Native.Nat.{ℕ, _+_, _-_, _*_, _/_, _%_, _<_, _≤_}
 use native.Mathlib.Omega.{arith}
-use borrow.Author.Needs.{needs}
 use lib.ListN.{length, getD, take, drop}
-use Rattle.std.specs.Iters.{counting}
 use Rattle.std.proofs.shelf.Counted.{length-map-counting, getD-map-counting}
-use Rattle.std.proofs.shelf.Lists.{getD-append-left, getD-append-right, same-lists, places, getD-take, getD-drop, length-take, length-drop, getD-default}
+use Rattle.std.proofs.shelf.Lists.{getD-append-left, getD-append-right, same-lists, getD-take, getD-drop, length-take, length-drop, getD-default}
 use borrow.Rule.Slice.PartMut.{putMid}
-use lib.Dec.{eqb}
 use Rattle.std.proofs.shelf.Tests.{cases-lt}
 use Rattle.std.specs.Options.{valueOr}
 use Rattle.std.specs.declared.option.Option.{Option}
 use Rattle.std.specs.declared.option.Option.the-variants.{None}
-use Rattle.std.proofs.shelf.Ways.{tells, eqb-tells}
+use Rattle.std.proofs.shelf.Ways.{eqb-tells}
 use Rattle.model.specs.Home.{pageAt, patched}
 use Rattle.pages.specs.Memory.{memory}
 

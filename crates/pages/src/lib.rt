@@ -9,9 +9,8 @@ ghost use Rattle.std.specs.declared.result.Result.the-variants.{Ok, Err};
 ghost use Rattle.model.specs.declared.Refusal.the-variants.{Malformed};
 ghost use Rattle.model.specs.Home.{pageAt, patched};
 ghost use Rattle.pages.specs.Memory.{memory, hasPage};
+use model::PAGE_WORDS;
 use model::Refusal;
-
-const PAGE_WORDS: usize = 64;
 
 // The words of a page, or refused where the lent words do not reach so far.
 pub fn page_words(words: &[u32], page: u16) -> Result<[u32; 64], Refusal>

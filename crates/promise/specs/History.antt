@@ -14,7 +14,6 @@ use Rattle.model.specs.declared.Message.the-variants.{PageRequest, PageReply, D
 use Rattle.model.specs.declared.Refusal.{Refusal}
 use Rattle.model.specs.Bytes.{parse}
 use Rattle.model.specs.Home.{HomeState, receives, homeAfter, patched}
-use Rattle.model.specs.Replies.{Reply}
 
 -- a message that was not refused, and what was sent for it
 pub record Exchange : Type 0 where

@@ -1,25 +1,17 @@
 // Bytes read as messages. A message is exactly as long as its kind says, and all that it names is in range.
-ghost use mathlib.Core.Bool.{_&&_, cond};
 ghost use mathlib.Core.Path.{_≡_};
-ghost use Prim.Native.Nat.{ℕ, _+_, _-_, _*_, _%_, _<_, _≤_};
-ghost use lib.Dec.{eqb};
+ghost use Prim.Native.Nat.{_+_, _-_, _%_, _≤_};
 ghost use lib.ListN.{length, drop, getD};
-ghost use Rattle.std.specs.declared.result.Result.the-variants.{Ok, Err};
-ghost use Rattle.model.specs.Bytes.{parse, readPageRequest, readPageReply, readDiff, readDiffApplied, wordsFrom, changesFrom, leftFrom, u8At, u32At};
-ghost use Rattle.model.specs.Sizes.{isStation, isLock};
-ghost use Rattle.model.specs.declared.Refusal.the-variants.{Malformed};
+ghost use Rattle.model.specs.Bytes.{parse, readPageRequest, readPageReply, readDiff, readDiffApplied, wordsFrom, changesFrom, leftFrom};
 use crate::fields::u16_at;
 use crate::fields::u32_at;
+use model::LOCKS;
 use model::Message;
+use model::PAGE_WORDS;
+use model::PAGES;
 use model::Refusal;
+use model::STATIONS;
 
-const STATIONS: u8 = 16;
-
-const PAGES: u16 = 1024;
-
-const LOCKS: u8 = 64;
-
-const PAGE_WORDS: usize = 64;
 // a change: its place and its word
 const CHANGE_BYTES: usize = 5;
 // what stands before the changes of a diff

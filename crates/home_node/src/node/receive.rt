@@ -24,11 +24,10 @@ use crate::node::Home;
 use crate::node::hear::hear;
 use model::Message;
 use model::Refusal;
+use model::WORDS;
 use std::alloc::AllocError;
 use std::alloc::Global;
 use wire::decode;
-
-const WORDS: usize = 65536;
 
 impl Home {
     // All words 0, no lock held.

@@ -1,4 +1,3 @@
-use borrow.Author.Needs.{needs}
 use Rattle.home.proofs.respond.push_refusals.Needs as need
 
 pub returns-in-Some : need.returns-in-Some

@@ -1,4 +1,3 @@
-use mathlib.Core.List.{[], _∷_}
 use lib.Chars.{codes}
 use Rattle.std.proofs.shelf.Equals.{matches-decides, sameBytes-decides}
 use Rattle.std.proofs.shelf.Ways.{same-from-decides}

@@ -1,7 +1,6 @@
-use mathlib.Core.Path.{_≡_, sym, ap, _∙_}
-use mathlib.Core.Bool.{Bool, Bool·beq}
+use mathlib.Core.Path.{sym, ap, _∙_}
+use mathlib.Core.Bool.{Bool·beq}
 use native.Mathlib.Omega.{arith}
-use lib.ListN.{getD}
 use Rattle.std.proofs.shelf.Sums.{leading-drop-yes, leading-drop-no, leading-drop-all}
 use Rattle.text.specs.Line.{alike}
 use Rattle.text.proofs.lines.run.Needs as need

@@ -1,5 +1,4 @@
 use native.Mathlib.Omega.{arith}
-use borrow.Author.Needs.{needs}
 use Rattle.wire.proofs.Changes.{at-first, now-taken, now-other, all-read, all-left}
 use Rattle.wire.proofs.read.changes_of.Needs as need
 use Rattle.wire.proofs.read.changes_of.Needs.{then-at-bytes·then-bytes-at, else-at-bytes, else-at-bytes·by·then-at-bytes·else-bytes-at, else-at-bytes·by·else-at-bytes}

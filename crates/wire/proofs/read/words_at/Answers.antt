@@ -1,11 +1,4 @@
 use native.Mathlib.Omega.{arith}
-use borrow.Author.Needs.{needs}
-use Prim.Native.Nat.{_+_, _*_, _<_}
-use mathlib.Core.Path.{_∙_}
-use Rattle.std.proofs.shelf.Edits.{fill-by-more}
-use Rattle.std.proofs.shelf.Lists.{length-set}
-use Rattle.model.specs.Bytes.{u32At}
-use lib.ListN.{length}
 use Rattle.wire.proofs.Words.{words-at, words-more}
 use Rattle.wire.proofs.read.words_at.Needs as need
 

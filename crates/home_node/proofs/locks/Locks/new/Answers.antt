@@ -1,4 +1,3 @@
-use mathlib.Core.List.{[]}
 use Rattle.std.specs.declared.option.Option.the-variants.{None}
 use Rattle.model.proofs.Tables.{filled}
 use Rattle.home_node.proofs.Tables.{same-table}

@@ -1,5 +1,4 @@
 use mathlib.Core.Path.{ap, sym, _∙_}
-use native.Mathlib.Omega.{arith}
 use Rattle.promise.proofs.Ranges.{known-read}
 use Rattle.home_node.specs.Answers.{replyOf}
 use Rattle.home_node.specs.Homes.{homeOf}
