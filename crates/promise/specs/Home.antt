@@ -25,7 +25,7 @@ pub record DiffsOnce (seen : List (List ℕ)) : Type 0 where
   pub words : homeAfter seen .words ≡ built (λ w. 0) (exchanges seen)
 
 -- A lock has one holder at a time: all that were granted it have given it back, each before the next, but for the holder.
--- It goes in turn and is never withheld: the grants are the beginning of the requests, as many as there are requests and one more than there are releases.
+-- It goes in turn and is never withheld: the grants are the beginning of the requests, as many as the lesser of the requests and one more than the releases.
 pub record InTurn (seen : List (List ℕ)) (l : ℕ) : Type 0 where
   pub holder : granted l (exchanges seen) ≡ released l (exchanges seen) ++ listOf (homeAfter seen .locks .holder l)
   pub turn :
