@@ -1,8 +1,6 @@
 // The home as a program: messages in hexadecimal come in, one to a line, and what the home sends goes out.
-mod respond;
-
+use home_lines::respond;
 use home_node::Home;
-use respond::respond;
 use std::error::AnyError;
 use std::io::BufRead;
 use std::io::BufReader;

@@ -1,4 +1,4 @@
-// A line of input answered by lines of output.
+// The lines that the program `home` prints, for each line that it reads.
 ghost use mathlib.Core.List.{_++_};
 ghost use mathlib.Core.Path.{_≡_};
 ghost use Rattle.std.specs.Of.Vec.{vec-items};
@@ -9,7 +9,7 @@ ghost use Rattle.home_node.specs.Homes.{homeOf};
 ghost use Rattle.std.specs.declared.option.Option.the-variants.{Some};
 ghost use Rattle.text.specs.Line.{meaningOf, meant, ShowWord};
 ghost use Rattle.text.specs.declared.Fault.the-variants.{Malformed};
-ghost use Rattle.home.specs.Output.{line, refusalLine, refusalLines, messageLine, messageLines, answerLines, shown, followed};
+ghost use Rattle.home_lines.specs.Output.{line, refusalLine, refusalLines, messageLine, messageLines, answerLines, shown, followed};
 use home_node::Answer;
 use home_node::Home;
 use home_node::Sent;

@@ -1,6 +1,6 @@
 use mathlib.Core.Path.{_∙_}
-use Rattle.home.proofs.Pieces.{refusal-written}
-use Rattle.home.proofs.respond.push_refusal.Needs as need
+use Rattle.home_lines.proofs.Pieces.{refusal-written}
+use Rattle.home_lines.proofs.push_refusal.Needs as need
 
 pub returns : need.returns
 returns c =

@@ -1,7 +1,7 @@
 use Rattle.home_node.specs.Homes.{homeOf}
 use Rattle.text.specs.Line.{meaningOf}
-use Rattle.home.proofs.Pieces.{not-read, not-followed}
-use Rattle.home.proofs.respond.respond.Needs as need
+use Rattle.home_lines.proofs.Pieces.{not-read, not-followed}
+use Rattle.home_lines.proofs.respond.Needs as need
 
 pub returns-in-Err : need.returns-in-Err
 returns-in-Err c =

@@ -21,7 +21,7 @@ use Rattle.std.proofs.shelf.Lists.{append-assoc}
 use Rattle.std.specs.Written.{decimal}
 use Rattle.model.specs.declared.Refusal.{Refusal}
 use Rattle.model.specs.Refusals.{numberOf}
-use Rattle.home.specs.Output.{line, refusalLine, shown, followed}
+use Rattle.home_lines.specs.Output.{line, refusalLine, shown, followed}
 
 -- a refusal: its words, then its number
 pub refusal-written :

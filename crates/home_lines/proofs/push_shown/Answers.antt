@@ -1,6 +1,6 @@
 use Rattle.home_node.specs.Homes.{homeOf}
-use Rattle.home.proofs.Pieces.{as-written, not-shown}
-use Rattle.home.proofs.respond.push_shown.Needs as need
+use Rattle.home_lines.proofs.Pieces.{as-written, not-shown}
+use Rattle.home_lines.proofs.push_shown.Needs as need
 
 pub returns-in-Err : need.returns-in-Err
 returns-in-Err c =
