@@ -71,7 +71,7 @@ passedOn t s l n (Some w) =
     done (ReleaseTaken s l n ∷ LockGranted (w .station) l (w .number) ∷ [])
     (record { requested = t .requested; holder = put l (Some (record { station = w .station; number = w .number })) (t .holder); waiting = withoutFirst l (t .waiting) })
 
--- It is taken from the holder with that number only. One that was granted and is no longer held has been given back before, and is answered again.
+-- It is taken from the holder with that number only. Any other whose number is not above the station's last, and that does not wait, counts as given back before: it is answered again.
 abbrev pub releases : LockTable → (s l n : ℕ) → Reply LockTable
 releases t s l n =
     cond (isHeldBy s n (t .holder l)) (passedOn t s l n (firstFor l (t .waiting)))

@@ -118,7 +118,7 @@ impl Locks {
         }
     }
 
-    // Taken from the holder with that number only. One that was granted and is no longer held is answered again.
+    // Taken from the holder with that number only. Any other that is not above the station's last, and does not wait, is answered again.
     pub fn release(&mut self, station: u8, lock: u8, number: u32) -> Answer
         requires station_known { ⌜ station < 16 ⌝ }
         requires lock_known { ⌜ lock < 64 ⌝ }
