@@ -2,13 +2,13 @@
 ghost use mathlib.Core.List.{_++_};
 ghost use mathlib.Core.Path.{_≡_};
 ghost use Rattle.std.specs.Of.Vec.{vec-items};
-ghost use Rattle.std.specs.Vec.{made};
+ghost use Rattle.std.specs.Vec.{made, refused};
 ghost use Rattle.std.specs.Written.{decimal};
 ghost use Rattle.home_node.specs.Answers.{sentOf};
 ghost use Rattle.home_node.specs.Homes.{homeOf};
 ghost use Rattle.std.specs.declared.option.Option.the-variants.{Some};
 ghost use Rattle.text.specs.Line.{meaningOf, meant, ShowWord};
-ghost use Rattle.text.specs.declared.Fault.the-variants.{Malformed};
+ghost use Rattle.text.specs.declared.Fault.the-variants.{Malformed, Memory};
 ghost use Rattle.home_lines.specs.Output.{line, refusalLine, refusalLines, messageLine, messageLines, answerLines, shown, followed};
 use home_node::Answer;
 use home_node::Home;
@@ -30,6 +30,7 @@ use wire::encode;
 pub fn respond(heap: Global, home: &mut Home, input: &[u8], out: &mut Vec<u8>) -> Result<(), Fault>
     ensures printed { λ r. ⌜ made r (λ _. vec-items (now (out .exit)) ≡ vec-items (now (out .entry)) ++ shown (homeOf (now (home .entry))) (meaningOf (now (input .entry)))) ⌝ }
     ensures after { λ r. ⌜ made r (λ _. homeOf (now (home .exit)) ≡ followed (homeOf (now (home .entry))) (meaningOf (now (input .entry)))) ⌝ }
+    ensures memory { λ r. ⌜ refused r (λ e. e ≡ Memory) ⌝ }
 {
     match home_line(heap, input) {
         Ok(line) => follow(heap, home, &line, out),
@@ -39,7 +40,8 @@ pub fn respond(heap: Global, home: &mut Home, input: &[u8], out: &mut Vec<u8>) -
 
 // A malformed line is refused; want of memory is handed on.
 fn push_fault(fault: Fault, out: &mut Vec<u8>) -> Result<(), Fault>
-    ensures { λ r. ⌜ made r (λ _. (fault ≡ Malformed) × (vec-items (now (out .exit)) ≡ vec-items (now (out .entry)) ++ refusalLine Refusal.Malformed)) ⌝ }
+    ensures printed { λ r. ⌜ made r (λ _. (fault ≡ Malformed) × (vec-items (now (out .exit)) ≡ vec-items (now (out .entry)) ++ refusalLine Refusal.Malformed)) ⌝ }
+    ensures memory { λ r. ⌜ refused r (λ e. e ≡ Memory) ⌝ }
 {
     match fault {
         Fault::Malformed => push_refusal(out, Refusal::Malformed),
@@ -51,6 +53,7 @@ fn push_fault(fault: Fault, out: &mut Vec<u8>) -> Result<(), Fault>
 fn follow(heap: Global, home: &mut Home, line: &HomeLine, out: &mut Vec<u8>) -> Result<(), Fault>
     ensures printed { λ r. ⌜ made r (λ _. vec-items (now (out .exit)) ≡ vec-items (now (out .entry)) ++ shown (homeOf (now (home .entry))) (Some (meant (now (line .entry))))) ⌝ }
     ensures after { λ _. ⌜ homeOf (now (home .exit)) ≡ followed (homeOf (now (home .entry))) (Some (meant (now (line .entry)))) ⌝ }
+    ensures memory { λ r. ⌜ refused r (λ e. e ≡ Memory) ⌝ }
 {
     match line {
         HomeLine::Blank => Ok(()),
@@ -64,7 +67,8 @@ fn follow(heap: Global, home: &mut Home, line: &HomeLine, out: &mut Vec<u8>) -> 
 
 // A word, or a refusal where there is no such word.
 fn push_shown(home: &Home, word: u32, out: &mut Vec<u8>) -> Result<(), Fault>
-    ensures { λ r. ⌜ made r (λ _. vec-items (now (out .exit)) ≡ vec-items (now (out .entry)) ++ shown (homeOf (now (home .entry))) (Some (ShowWord word))) ⌝ }
+    ensures printed { λ r. ⌜ made r (λ _. vec-items (now (out .exit)) ≡ vec-items (now (out .entry)) ++ shown (homeOf (now (home .entry))) (Some (ShowWord word))) ⌝ }
+    ensures memory { λ r. ⌜ refused r (λ e. e ≡ Memory) ⌝ }
 {
     match home.word(word) {
         Ok(value) => push_value(out, value),
@@ -74,7 +78,8 @@ fn push_shown(home: &Home, word: u32, out: &mut Vec<u8>) -> Result<(), Fault>
 
 // A refusal first, then what is sent.
 fn push_answer(heap: Global, answer: &Answer, out: &mut Vec<u8>) -> Result<(), Fault>
-    ensures { λ r. ⌜ made r (λ _. vec-items (now (out .exit)) ≡ vec-items (now (out .entry)) ++ answerLines (now (answer .entry) .refusal) (sentOf (now (answer .entry) .sent))) ⌝ }
+    ensures printed { λ r. ⌜ made r (λ _. vec-items (now (out .exit)) ≡ vec-items (now (out .entry)) ++ answerLines (now (answer .entry) .refusal) (sentOf (now (answer .entry) .sent))) ⌝ }
+    ensures memory { λ r. ⌜ refused r (λ e. e ≡ Memory) ⌝ }
 {
     push_refusals(out, answer.refusal)?;
     push_messages(heap, out, &answer.sent)?;
@@ -83,7 +88,8 @@ fn push_answer(heap: Global, answer: &Answer, out: &mut Vec<u8>) -> Result<(), F
 
 // A number and the end of the line.
 fn push_value(out: &mut Vec<u8>, value: u32) -> Result<(), Fault>
-    ensures { λ r. ⌜ made r (λ _. vec-items (now (out .exit)) ≡ vec-items (now (out .entry)) ++ line (decimal value)) ⌝ }
+    ensures printed { λ r. ⌜ made r (λ _. vec-items (now (out .exit)) ≡ vec-items (now (out .entry)) ++ line (decimal value)) ⌝ }
+    ensures memory { λ r. ⌜ refused r (λ e. e ≡ Memory) ⌝ }
 {
     push_number(out, value)?;
     out.push(b'\n')?;
@@ -91,7 +97,8 @@ fn push_value(out: &mut Vec<u8>, value: u32) -> Result<(), Fault>
 }
 
 fn push_refusal(out: &mut Vec<u8>, why: Refusal) -> Result<(), Fault>
-    ensures { λ r. ⌜ made r (λ _. vec-items (now (out .exit)) ≡ vec-items (now (out .entry)) ++ refusalLine why) ⌝ }
+    ensures printed { λ r. ⌜ made r (λ _. vec-items (now (out .exit)) ≡ vec-items (now (out .entry)) ++ refusalLine why) ⌝ }
+    ensures memory { λ r. ⌜ refused r (λ e. e ≡ Memory) ⌝ }
 {
     out.extend_from_slice(b"turned away ")?;
     push_value(out, u32::from(why.number()))?;
@@ -99,7 +106,8 @@ fn push_refusal(out: &mut Vec<u8>, why: Refusal) -> Result<(), Fault>
 }
 
 fn push_message(heap: Global, out: &mut Vec<u8>, message: &Message) -> Result<(), Fault>
-    ensures { λ r. ⌜ made r (λ _. vec-items (now (out .exit)) ≡ vec-items (now (out .entry)) ++ messageLine (now (message .entry))) ⌝ }
+    ensures printed { λ r. ⌜ made r (λ _. vec-items (now (out .exit)) ≡ vec-items (now (out .entry)) ++ messageLine (now (message .entry))) ⌝ }
+    ensures memory { λ r. ⌜ refused r (λ e. e ≡ Memory) ⌝ }
 {
     let bytes = encode(heap, message)?;
     push_hex(out, bytes.as_slice())?;
@@ -108,7 +116,8 @@ fn push_message(heap: Global, out: &mut Vec<u8>, message: &Message) -> Result<()
 }
 
 fn push_refusals(out: &mut Vec<u8>, refusal: Option<Refusal>) -> Result<(), Fault>
-    ensures { λ r. ⌜ made r (λ _. vec-items (now (out .exit)) ≡ vec-items (now (out .entry)) ++ refusalLines refusal) ⌝ }
+    ensures printed { λ r. ⌜ made r (λ _. vec-items (now (out .exit)) ≡ vec-items (now (out .entry)) ++ refusalLines refusal) ⌝ }
+    ensures memory { λ r. ⌜ refused r (λ e. e ≡ Memory) ⌝ }
 {
     match refusal {
         Some(why) => push_refusal(out, why),
@@ -117,7 +126,8 @@ fn push_refusals(out: &mut Vec<u8>, refusal: Option<Refusal>) -> Result<(), Faul
 }
 
 fn push_messages(heap: Global, out: &mut Vec<u8>, sent: &Sent) -> Result<(), Fault>
-    ensures { λ r. ⌜ made r (λ _. vec-items (now (out .exit)) ≡ vec-items (now (out .entry)) ++ messageLines (sentOf (now (sent .entry)))) ⌝ }
+    ensures printed { λ r. ⌜ made r (λ _. vec-items (now (out .exit)) ≡ vec-items (now (out .entry)) ++ messageLines (sentOf (now (sent .entry)))) ⌝ }
+    ensures memory { λ r. ⌜ refused r (λ e. e ≡ Memory) ⌝ }
 {
     match sent {
         Sent::Nothing => Ok(()),

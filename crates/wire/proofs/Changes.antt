@@ -16,6 +16,7 @@ use mathlib.Core.Logic.{inl, inr}
 use Rattle.model.proofs.Tables.{fill-at}
 use Rattle.model.specs.Bytes.{u32At, isNext, changesFrom, leftFrom}
 use Rattle.wire.proofs.Words.{u32-drop}
+use Rattle.wire.proofs.Written.{moved}
 
 -- the next byte is this place, or is another, or there is none
 is-next : (bs : List ℕ) (at place : ℕ) → at < length bs → isNext place (drop at bs) ≡ eqb (getD bs at 0) place
@@ -53,10 +54,6 @@ left-other : (n place : ℕ) (bs : List ℕ) → isNext place bs ≡ false → l
 unfolding leftFrom
 left-other n place bs e = rw (e, add-one place)
 
--- one element more in front of the rest
-moved : (front rest all : List (Option ℕ)) (x : Option ℕ) → front ++ (x ∷ rest) ≡ all → (front ++ x ∷ []) ++ rest ≡ all
-moved front rest all x e = append-assoc front (x ∷ []) rest ∙ e
-
 module _ (bs : List ℕ) (place at : ℕ) (changes : List (Option ℕ)) (before : SoFar bs place at changes) (few : place < 64) where
   steps : 64 - place ≡ suc (64 - (place + 1))
   steps = omega arith
@@ -73,7 +70,7 @@ module _ (bs : List ℕ) (place at : ℕ) (changes : List (Option ℕ)) (before 
         blank = λ k h. before .blank k (omega arith);
         read =
             ap (λ f. f ++ changesFrom (64 - (place + 1)) (place + 1) (drop at bs)) (take-more changes place None within ∙ ap (λ x. take place changes ++ x ∷ []) (before .blank place (omega arith))) ∙
-            moved (take place changes) _ _ None (ap (λ r. take place changes ++ r) (sym (changes-other _ place (drop at bs) e) ∙ ap (λ n. changesFrom n place (drop at bs)) (sym steps)) ∙ before .read);
+            moved (take place changes) (None ∷ []) _ _ _ refl (ap (λ r. take place changes ++ r) (sym (changes-other _ place (drop at bs) e) ∙ ap (λ n. changesFrom n place (drop at bs)) (sym steps)) ∙ before .read);
         left = sym (left-other _ place (drop at bs) e) ∙ ap (λ n. leftFrom n place (drop at bs)) (sym steps) ∙ before .left;
       }
 
@@ -93,7 +90,7 @@ module _ (bs : List ℕ) (place at : ℕ) (changes : List (Option ℕ)) (before 
           blank = λ k h. getD-set-other changes place k _ None (omega arith) ∙ before .blank k (omega arith);
           read =
               ap (λ f. f ++ changesFrom (64 - (place + 1)) (place + 1) (drop (at + 5) bs)) (take-more-set changes place _ within) ∙
-              moved (take place changes) _ _ _
+              moved (take place changes) (Some (u32At bs (at + 1)) ∷ []) _ _ _ refl
               (ap (λ b. take place changes ++ (Some (u32At bs (at + 1)) ∷ changesFrom (64 - (place + 1)) (place + 1) b)) (sym (drop-drop 5 at bs)) ∙
               ap (λ w. take place changes ++ (Some w ∷ changesFrom (64 - (place + 1)) (place + 1) (drop 5 (drop at bs)))) (sym word) ∙
               ap (λ r. take place changes ++ r) (sym (changes-next _ place (drop at bs) named) ∙ ap (λ n. changesFrom n place (drop at bs)) (sym steps)) ∙ before .read);

@@ -14,7 +14,7 @@ use Rattle.std.proofs.shelf.Lists.{append-nil, drop-more, drop-all}
 use Rattle.model.specs.Bytes.{u32Bytes, wordBytes, changeCount, changeBytes}
 
 -- the next piece moves from the rest to what is out
-moved : (out piece rest more all : List ℕ) → more ≡ piece ++ rest → out ++ more ≡ all → (out ++ piece) ++ rest ≡ all
+pub moved : {A : Type 0} (out piece rest more all : List A) → more ≡ piece ++ rest → out ++ more ≡ all → (out ++ piece) ++ rest ≡ all
 moved out piece rest more all e h = append-assoc out piece rest ∙ ap (λ l. out ++ l) (sym e) ∙ h
 
 ended : (out rest all : List ℕ) → rest ≡ [] → out ++ rest ≡ all → out ≡ all

@@ -4,4 +4,9 @@ use Rattle.home_lines.proofs.push_shown.Needs as need
 
 pub returns-in-Err : need.returns-in-Err
 returns-in-Err c =
-    as-written (c .push-refusal .result) _ _ _ _ (not-shown (homeOf (c .args .home .now)) (c .args .word) (c .in-Err .why) (c .in-Err .ensures tt)) (c .push-refusal .ensures)
+    let h = homeOf (c .args .home .now) in
+    let pushed = c .push-refusal .ensures in
+    record {
+      printed = as-written (c .push-refusal .result) _ _ _ _ (not-shown h (c .args .word) (c .in-Err .why) (c .in-Err .ensures tt)) (pushed .printed);
+      memory = pushed .memory;
+    }

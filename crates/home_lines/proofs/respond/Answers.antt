@@ -8,6 +8,7 @@ returns-in-Err c =
     let h = homeOf (c .args .home .now) in
     let m = meaningOf (c .args .input .now) in
     record {
-      printed = not-read (c .in-Err .fault) m h (c .in-Err .ensures tt) (c .push-fault .result) _ _ (c .push-fault .ensures);
-      after = not-followed (c .in-Err .fault) m h (c .in-Err .ensures tt) (c .push-fault .result) _ _ (c .push-fault .ensures);
+      printed = not-read (c .in-Err .fault) m h (c .in-Err .ensures tt) (c .push-fault .result) _ _ (c .push-fault .ensures .printed);
+      after = not-followed (c .in-Err .fault) m h (c .in-Err .ensures tt) (c .push-fault .result) _ _ (c .push-fault .ensures .printed);
+      memory = c .push-fault .ensures .memory;
     }
