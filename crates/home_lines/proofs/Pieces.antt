@@ -10,17 +10,17 @@ use Rattle.std.specs.declared.option.Option.{Option}
 use Rattle.std.specs.declared.option.Option.the-variants.{Some, None}
 use Rattle.std.specs.declared.result.Result.{Result}
 use Rattle.std.specs.declared.result.Result.the-variants.{Ok, Err}
-use Rattle.model.specs.declared.Refusal.the-variants.{Malformed}
+use Rattle.basics.specs.declared.Refusal.the-variants.{Malformed}
 use Rattle.model.specs.Home.{HomeState}
-use Rattle.model.specs.Sizes.{isWord}
+use Rattle.basics.specs.Sizes.{isWord}
 use Rattle.text.specs.declared.Fault.{Fault}
 use Rattle.text.specs.declared.Fault.the-variants as faults
 use Rattle.text.specs.Faults.{Refuses}
 use Rattle.text.specs.Line.{Meaning, ShowWord}
 use Rattle.std.proofs.shelf.Lists.{append-assoc}
 use Rattle.std.specs.Written.{decimal}
-use Rattle.model.specs.declared.Refusal.{Refusal}
-use Rattle.model.specs.Refusals.{numberOf}
+use Rattle.basics.specs.declared.Refusal.{Refusal}
+use Rattle.basics.specs.Refusals.{numberOf}
 use Rattle.home_lines.specs.Output.{line, refusalLine, shown, followed}
 
 -- a refusal: its words, then its number

@@ -8,12 +8,12 @@ use Rattle.std.specs.Written.{decimal}
 use Rattle.std.specs.declared.option.Option.{Option}
 use Rattle.std.specs.declared.option.Option.the-variants.{Some, None}
 use Rattle.model.specs.declared.Message.{Message}
-use Rattle.model.specs.declared.Refusal.{Refusal}
-use Rattle.model.specs.declared.Refusal.the-variants.{Malformed}
+use Rattle.basics.specs.declared.Refusal.{Refusal}
+use Rattle.basics.specs.declared.Refusal.the-variants.{Malformed}
 use Rattle.model.specs.Bytes.{bytesOf}
 use Rattle.model.specs.Home.{HomeState, receives}
-use Rattle.model.specs.Refusals.{numberOf}
-use Rattle.model.specs.Sizes.{isWord}
+use Rattle.basics.specs.Refusals.{numberOf}
+use Rattle.basics.specs.Sizes.{isWord}
 use Rattle.text.specs.Hex.{hexOf}
 use Rattle.text.specs.Line.{Meaning, Nothing, ShowWord, Bytes}
 

@@ -6,7 +6,7 @@ use Prim.Native.Nat.{ℕ}
 use Rattle.std.specs.declared.option.Option.the-variants.{Some}
 use Rattle.std.specs.declared.result.Result.the-variants.{Ok, Err}
 use Rattle.model.specs.declared.Message.{Message}
-use Rattle.model.specs.declared.Refusal.{Refusal}
+use Rattle.basics.specs.declared.Refusal.{Refusal}
 use Rattle.model.specs.Bytes.{parse}
 use Rattle.model.specs.Home.{HomeState, hears, hearsRead, receives, homeAfter}
 use Rattle.model.specs.Replies.{Reply, refused}

@@ -8,7 +8,7 @@ use Rattle.std.specs.Of.Vec.{vec-items, vec-len}
 use Rattle.std.specs.declared.alloc.Global.{Global}
 use Rattle.std.specs.declared.option.Option.{Option}
 use Rattle.std.specs.declared.vec.Vec.{Vec}
-use Rattle.model.proofs.Tables.{filled}
+use Rattle.basics.proofs.Tables.{filled}
 use Rattle.model.specs.declared.Holder.{Holder}
 use Rattle.model.specs.declared.Waiter.{Waiter}
 use Rattle.model.specs.Home.{HomeState, homeAfter, fresh}

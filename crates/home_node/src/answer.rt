@@ -1,8 +1,8 @@
 // What a message is answered with.
 ghost use mathlib.Core.Path.{_≡_};
 ghost use Rattle.std.specs.declared.option.Option.the-variants.{None, Some};
+use basics::Refusal;
 use model::Message;
-use model::Refusal;
 
 // The messages sent, in order.
 #[derive(Clone, Copy)]

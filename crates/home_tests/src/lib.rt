@@ -1,13 +1,13 @@
 // Examples of messages and of the home, as a user would meet them.
 #[cfg(test)]
 mod tests {
+    use basics::Refusal;
+    use basics::RefusalDebug;
+    use basics::RefusalPartialEq;
     use home_node::Answer;
     use home_node::Home;
     use home_node::Sent;
     use model::Message;
-    use model::Refusal;
-    use model::RefusalDebug;
-    use model::RefusalPartialEq;
     use std::test::*;
     use wire::decode;
     use wire::encode;

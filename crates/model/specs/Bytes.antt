@@ -1,7 +1,7 @@
 -- Messages as bytes, high byte first, and the reading of any bytes: a message, or refused as malformed. Assumes nothing.
 use mathlib.Core.Bool.{Bool, false, cond, _&&_}
 use mathlib.Core.List.{List, [], _∷_, _++_}
-use Prim.Native.Nat.{ℕ, zero, suc, _+_, _*_, _/_, _%_}
+use Prim.Native.Nat.{ℕ, zero, suc, _+_, _*_}
 use lib.Dec.{eqb}
 use lib.ListN.{length, getD, drop}
 use Rattle.std.specs.declared.option.Option.{Option}
@@ -10,16 +10,10 @@ use Rattle.std.specs.declared.result.Result.{Result}
 use Rattle.std.specs.declared.result.Result.the-variants.{Ok, Err}
 use Rattle.model.specs.declared.Message.{Message}
 use Rattle.model.specs.declared.Message.the-variants.{PageRequest, PageReply, Diff, DiffApplied, LockRequest, LockGranted, LockReleased, ReleaseTaken}
-use Rattle.model.specs.declared.Refusal.{Refusal}
-use Rattle.model.specs.declared.Refusal.the-variants.{Malformed}
-use Rattle.model.specs.Sizes.{isStation, isPage, isLock}
-
--- A number in two bytes, and in four.
-abbrev pub u16Bytes : ℕ → List ℕ
-u16Bytes n = (n / 256 % 256) ∷ (n % 256) ∷ []
-
-abbrev pub u32Bytes : ℕ → List ℕ
-u32Bytes n = (n / 16777216 % 256) ∷ (n / 65536 % 256) ∷ (n / 256 % 256) ∷ (n % 256) ∷ []
+use Rattle.basics.specs.declared.Refusal.{Refusal}
+use Rattle.basics.specs.declared.Refusal.the-variants.{Malformed}
+use Rattle.basics.specs.Numbers.{u16Bytes, u32Bytes, u8At, u16At, u32At}
+use Rattle.basics.specs.Sizes.{isStation, isPage, isLock}
 
 unfoldable pub wordBytes : List ℕ → List ℕ
 wordBytes [] = []
@@ -48,16 +42,7 @@ bytesOf (LockGranted s l n) = 6 ∷ s ∷ l ∷ u32Bytes n
 bytesOf (LockReleased s l n) = 7 ∷ s ∷ l ∷ u32Bytes n
 bytesOf (ReleaseTaken s l n) = 8 ∷ s ∷ l ∷ u32Bytes n
 
--- THE READING. The byte, and the number of two or four bytes, at a place.
-abbrev pub u8At : List ℕ → ℕ → ℕ
-u8At bs i = getD bs i 0
-
-abbrev pub u16At : List ℕ → ℕ → ℕ
-u16At bs i = getD bs i 0 * 256 + getD bs (i + 1) 0
-
-abbrev pub u32At : List ℕ → ℕ → ℕ
-u32At bs i = getD bs i 0 * 16777216 + getD bs (i + 1) 0 * 65536 + getD bs (i + 2) 0 * 256 + getD bs (i + 3) 0
-
+-- THE READING.
 -- n words, one behind the other
 unfoldable pub wordsFrom : ℕ → List ℕ → List ℕ
 wordsFrom zero bs = []

@@ -12,9 +12,9 @@ use Rattle.std.specs.declared.result.Result.{Result}
 use Rattle.std.specs.declared.result.Result.the-variants.{Ok, Err}
 use Rattle.model.specs.declared.Message.{Message}
 use Rattle.model.specs.declared.Message.the-variants.{PageRequest, PageReply, Diff, DiffApplied, LockRequest, LockGranted, LockReleased, ReleaseTaken}
-use Rattle.model.specs.declared.Refusal.{Refusal}
-use Rattle.model.specs.declared.Refusal.the-variants.{Malformed, StaleNumber}
-use Rattle.model.specs.Sizes.{pageOf, placeOf, put}
+use Rattle.basics.specs.declared.Refusal.{Refusal}
+use Rattle.basics.specs.declared.Refusal.the-variants.{Malformed, StaleNumber}
+use Rattle.basics.specs.Sizes.{pageOf, placeOf, put}
 use Rattle.model.specs.Bytes.{parse}
 use Rattle.model.specs.Replies.{Reply, done, refused}
 use Rattle.model.specs.Locks.{LockTable, unlocked, requests, releases}

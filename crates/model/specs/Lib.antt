@@ -1,5 +1,3 @@
-pub mod Sizes
-pub mod Refusals
 pub mod Bytes
 pub mod Replies
 pub mod Locks

@@ -9,9 +9,9 @@ use Rattle.std.specs.declared.option.Option.the-variants.{Some, None}
 use Rattle.model.specs.declared.Holder.{Holder}
 use Rattle.model.specs.declared.Waiter.{Waiter}
 use Rattle.model.specs.declared.Message.the-variants.{LockGranted, ReleaseTaken}
-use Rattle.model.specs.declared.Refusal.the-variants.{StaleNumber}
+use Rattle.basics.specs.declared.Refusal.the-variants.{StaleNumber}
 use Rattle.model.specs.Replies.{Reply, done, refused}
-use Rattle.model.specs.Sizes.{put}
+use Rattle.basics.specs.Sizes.{put}
 
 -- requested: of each station, the number of its last lock request; holder: of each lock; waiting: all that wait, first come first
 pub record LockTable : Type 0 where

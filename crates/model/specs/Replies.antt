@@ -3,7 +3,7 @@ use mathlib.Core.List.{List}
 use Rattle.std.specs.declared.option.Option.{Option}
 use Rattle.std.specs.declared.option.Option.the-variants.{Some, None}
 use Rattle.model.specs.declared.Message.{Message}
-use Rattle.model.specs.declared.Refusal.{Refusal}
+use Rattle.basics.specs.declared.Refusal.{Refusal}
 
 pub record Reply (S : Type 0) : Type 0 where
   pub refusal : Option Refusal

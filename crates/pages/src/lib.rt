@@ -6,11 +6,11 @@ ghost use lib.ListN.{length, getD};
 ghost use Rattle.std.specs.Options.{valueOr};
 ghost use Rattle.std.specs.declared.option.Option.the-variants.{None, Some};
 ghost use Rattle.std.specs.declared.result.Result.the-variants.{Ok, Err};
-ghost use Rattle.model.specs.declared.Refusal.the-variants.{Malformed};
+ghost use Rattle.basics.specs.declared.Refusal.the-variants.{Malformed};
 ghost use Rattle.model.specs.Home.{pageAt, patched};
 ghost use Rattle.pages.specs.Memory.{memory, hasPage};
-use model::PAGE_WORDS;
-use model::Refusal;
+use basics::PAGE_WORDS;
+use basics::Refusal;
 
 // The words of a page, or refused where the lent words do not reach so far.
 pub fn page_words(words: &[u32], page: u16) -> Result<[u32; 64], Refusal>

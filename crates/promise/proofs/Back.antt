@@ -12,9 +12,10 @@ use Rattle.std.specs.declared.result.Result.the-variants.{Ok}
 use Rattle.std.specs.shelf.Lists.{All}
 use Rattle.model.specs.declared.Message.{Message}
 use Rattle.model.specs.declared.Message.the-variants.{PageRequest, PageReply, Diff, DiffApplied, LockRequest, LockGranted, LockReleased, ReleaseTaken}
-use Rattle.model.specs.Bytes.{u32Bytes, bytesOf, parse, readLock, wordBytes, wordsFrom, changeCount, changeBytes, changesFrom, leftFrom}
-use Rattle.promise.specs.Codec.{Word, Change, LockFits, ComesBack}
-use Rattle.promise.proofs.Numbers.{half-back, word-back}
+use Rattle.basics.specs.Numbers.{Word, u32Bytes}
+use Rattle.model.specs.Bytes.{bytesOf, parse, readLock, wordBytes, wordsFrom, changeCount, changeBytes, changesFrom, leftFrom}
+use Rattle.promise.specs.Codec.{Change, LockFits, ComesBack}
+use Rattle.basics.proofs.Numbers.{half-back, word-back}
 use Rattle.promise.proofs.Words.{length-word-bytes, words-back}
 use Rattle.promise.proofs.Changes.{length-change-bytes, changes-back, none-left}
 

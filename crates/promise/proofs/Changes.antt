@@ -14,7 +14,7 @@ use Rattle.std.specs.declared.option.Option.the-variants.{Some, None}
 use Rattle.std.specs.shelf.Lists.{All}
 use Rattle.model.specs.Bytes.{isNext, changeCount, changeBytes, changesFrom, leftFrom}
 use Rattle.promise.specs.Codec.{Change}
-use Rattle.promise.proofs.Numbers.{Bytes, bytes-drop, word-back, word-written, word-fits, byte-written}
+use Rattle.basics.proofs.Numbers.{Bytes, bytes-drop, word-back, word-written, word-fits, byte-written}
 
 pub length-change-bytes : (place : ℕ) (cs : List (Option ℕ)) → length (changeBytes place cs) ≡ 5 * changeCount cs
 unfolding changeBytes changeCount

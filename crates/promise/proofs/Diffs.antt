@@ -14,9 +14,9 @@ use Rattle.std.specs.declared.option.Option.the-variants.{Some, None}
 use Rattle.std.specs.declared.result.Result.the-variants.{Ok}
 use Rattle.model.specs.declared.Message.{Message}
 use Rattle.model.specs.declared.Message.the-variants.{Diff}
-use Rattle.model.specs.declared.Refusal.{Refusal}
+use Rattle.basics.specs.declared.Refusal.{Refusal}
 use Rattle.model.specs.Home.{patched}
-use Rattle.model.specs.Sizes.{put}
+use Rattle.basics.specs.Sizes.{put}
 use Rattle.promise.specs.History.{Exchange, exchange, diffNumber, diffNumbers, putIn, built}
 use Rattle.promise.proofs.Longer.{numbers-push, built-push}
 

@@ -10,8 +10,9 @@ use Rattle.std.proofs.shelf.Tests.{ne-eqb}
 use Rattle.std.specs.declared.result.Result.the-variants.{Err}
 use Rattle.model.specs.declared.Message.{Message}
 use Rattle.model.specs.declared.Message.the-variants.{PageRequest, PageReply, Diff, DiffApplied, LockRequest, LockGranted, LockReleased, ReleaseTaken}
-use Rattle.model.specs.declared.Refusal.the-variants.{Malformed}
-use Rattle.model.specs.Bytes.{bytesOf, parse, readKind, u8At}
+use Rattle.basics.specs.declared.Refusal.the-variants.{Malformed}
+use Rattle.basics.specs.Numbers.{u8At}
+use Rattle.model.specs.Bytes.{bytesOf, parse, readKind}
 use Rattle.promise.specs.Codec.{InRange, CutRefused, LongerRefused}
 use Rattle.promise.proofs.Words.{length-word-bytes}
 use Rattle.promise.proofs.Changes.{length-change-bytes}

@@ -8,7 +8,6 @@ pub mod Line
 pub mod Locking
 pub mod Diffs
 pub mod All
-pub mod Numbers
 pub mod Words
 pub mod Changes
 pub mod Back

@@ -18,7 +18,7 @@ use Rattle.model.specs.declared.Waiter.{Waiter}
 use Rattle.model.specs.declared.Message.{Message}
 use Rattle.model.specs.declared.Message.the-variants.{LockRequest, LockReleased}
 use Rattle.model.specs.Locks.{LockTable, isHeldBy, waitsWith, stillWaits, firstFor, withoutFirst, admitted, requests, passedOn, releases}
-use Rattle.model.specs.Sizes.{put}
+use Rattle.basics.specs.Sizes.{put}
 use Rattle.promise.specs.History.{Exchange, requested, released, granted, requestOf, releaseOf, grantOf, onLock}
 use Rattle.promise.specs.Home.{apart}
 use Rattle.promise.proofs.Queue.{apart-push, apart-without}

@@ -11,10 +11,11 @@ use Rattle.std.specs.declared.result.Result.{Result}
 use Rattle.std.specs.declared.result.Result.the-variants.{Ok, Err}
 use Rattle.model.specs.declared.Message.{Message}
 use Rattle.model.specs.declared.Message.the-variants.{LockRequest, LockGranted, LockReleased, ReleaseTaken}
-use Rattle.model.specs.declared.Refusal.{Refusal}
-use Rattle.model.specs.declared.Refusal.the-variants.{Malformed}
+use Rattle.basics.specs.declared.Refusal.{Refusal}
+use Rattle.basics.specs.declared.Refusal.the-variants.{Malformed}
 use Rattle.promise.specs.Ranges.{Known}
-use Rattle.model.specs.Bytes.{parse, readPageRequest, readPageReply, readDiff, readDiffApplied, readLock, u8At, u32At}
+use Rattle.basics.specs.Numbers.{u8At, u32At}
+use Rattle.model.specs.Bytes.{parse, readPageRequest, readPageReply, readDiff, readDiffApplied, readLock}
 
 -- if something was read, what it names is there
 abbrev pub KnownIf : Result Message Refusal → Type 0

@@ -13,11 +13,12 @@ use Rattle.std.specs.declared.result.Result.{Result}
 use Rattle.std.specs.declared.result.Result.the-variants.{Ok, Err}
 use Rattle.model.specs.declared.Message.{Message}
 use Rattle.model.specs.declared.Message.the-variants.{LockRequest, LockGranted, LockReleased, ReleaseTaken}
-use Rattle.model.specs.declared.Refusal.{Refusal}
-use Rattle.model.specs.declared.Refusal.the-variants.{Malformed}
-use Rattle.model.specs.Bytes.{bytesOf, given, u16At, u32Bytes, leftFrom, readPageRequest, readPageReply, readDiff, readDiffApplied, readLock}
+use Rattle.basics.specs.declared.Refusal.{Refusal}
+use Rattle.basics.specs.declared.Refusal.the-variants.{Malformed}
+use Rattle.basics.specs.Numbers.{u16At, u32Bytes}
+use Rattle.model.specs.Bytes.{bytesOf, given, leftFrom, readPageRequest, readPageReply, readDiff, readDiffApplied, readLock}
 use Rattle.promise.specs.Codec.{LockFits, InRange, OneText}
-use Rattle.promise.proofs.Numbers.{Bytes, bytes-drop, byte-written, half-written, word-written, word-last, word-fits}
+use Rattle.basics.proofs.Numbers.{Bytes, bytes-drop, byte-written, half-written, word-written, word-last, word-fits}
 use Rattle.promise.proofs.Words.{length-words, words-fit, words-written}
 use Rattle.promise.proofs.Changes.{length-changes, changes-fit, changes-written, changes-count}
 

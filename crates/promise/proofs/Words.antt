@@ -7,8 +7,8 @@ use lib.ListN.{length, drop}
 use Rattle.std.proofs.shelf.Lists.{length-drop, nil-from-length}
 use Rattle.std.specs.shelf.Lists.{All}
 use Rattle.model.specs.Bytes.{wordBytes, wordsFrom}
-use Rattle.promise.specs.Codec.{Word}
-use Rattle.promise.proofs.Numbers.{Bytes, bytes-drop, word-back, word-written, word-fits}
+use Rattle.basics.specs.Numbers.{Word}
+use Rattle.basics.proofs.Numbers.{Bytes, bytes-drop, word-back, word-written, word-fits}
 
 pub length-word-bytes : (ws : List ℕ) → length (wordBytes ws) ≡ 4 * length ws
 unfolding wordBytes

@@ -1,7 +1,7 @@
 -- What is promised of messages as bytes. Assumes nothing.
 use mathlib.Core.Path.{_≡_}
 use mathlib.Core.List.{List, _∷_, _++_}
-use Prim.Native.Nat.{ℕ, _^_, _<_}
+use Prim.Native.Nat.{ℕ, _<_}
 use lib.ListN.{length, take}
 use Rattle.std.specs.shelf.Lists.{All}
 use Rattle.std.specs.declared.option.Option.{Option}
@@ -9,11 +9,9 @@ use Rattle.std.specs.declared.option.Option.the-variants.{Some, None}
 use Rattle.std.specs.declared.result.Result.the-variants.{Ok, Err}
 use Rattle.model.specs.declared.Message.{Message}
 use Rattle.model.specs.declared.Message.the-variants.{PageRequest, PageReply, Diff, DiffApplied, LockRequest, LockGranted, LockReleased, ReleaseTaken}
-use Rattle.model.specs.declared.Refusal.the-variants.{Malformed}
+use Rattle.basics.specs.declared.Refusal.the-variants.{Malformed}
+use Rattle.basics.specs.Numbers.{Word}
 use Rattle.model.specs.Bytes.{bytesOf, parse}
-
-abbrev pub Word : ℕ → Type 0
-Word n = n < 2 ^ 32
 
 abbrev pub Change : Option ℕ → Type 0
 Change None = Unit {0}

@@ -9,7 +9,7 @@ use Rattle.std.specs.Iters.{counting}
 use Rattle.std.specs.Options.{isSome}
 use Rattle.std.specs.Vec.{listOf}
 use Rattle.std.specs.declared.option.Option.the-variants.{Some}
-use Rattle.model.specs.declared.Refusal.{Refusal}
+use Rattle.basics.specs.declared.Refusal.{Refusal}
 use Rattle.model.specs.declared.Waiter.{Waiter}
 use Rattle.model.specs.Home.{HomeState, receives, homeAfter}
 use Rattle.model.specs.Locks.{waitsWith}

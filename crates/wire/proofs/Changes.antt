@@ -13,8 +13,9 @@ use Rattle.std.proofs.shelf.Lists.{append-nil, drop-more, drop-drop, drop-all, 
 use Rattle.std.proofs.shelf.Tests.{cases-lt}
 use Rattle.std.proofs.shelf.Ways.{tells}
 use mathlib.Core.Logic.{inl, inr}
-use Rattle.model.proofs.Tables.{fill-at}
-use Rattle.model.specs.Bytes.{u32At, isNext, changesFrom, leftFrom}
+use Rattle.basics.proofs.Tables.{fill-at}
+use Rattle.basics.specs.Numbers.{u32At}
+use Rattle.model.specs.Bytes.{isNext, changesFrom, leftFrom}
 use Rattle.wire.proofs.Words.{u32-drop}
 use Rattle.wire.proofs.Written.{moved}
 

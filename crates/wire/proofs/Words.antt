@@ -6,7 +6,8 @@ use native.Mathlib.Omega.{arith}
 use lib.ListN.{length, getD, drop, set}
 use Rattle.std.proofs.shelf.Edits.{fill-by-more}
 use Rattle.std.proofs.shelf.Lists.{getD-drop, length-set}
-use Rattle.model.specs.Bytes.{u32At, wordsFrom}
+use Rattle.basics.specs.Numbers.{u32At}
+use Rattle.model.specs.Bytes.{wordsFrom}
 
 -- a word behind some bytes that are left out
 pub u32-drop : (a i : ℕ) (bs : List ℕ) → u32At (drop a bs) i ≡ u32At bs (a + i)

@@ -11,7 +11,8 @@ use Rattle.std.specs.Options.{isSome}
 use Rattle.std.specs.declared.option.Option.{Option}
 use Rattle.std.specs.declared.option.Option.the-variants.{Some, None}
 use Rattle.std.proofs.shelf.Lists.{append-nil, drop-more, drop-all}
-use Rattle.model.specs.Bytes.{u32Bytes, wordBytes, changeCount, changeBytes}
+use Rattle.basics.specs.Numbers.{u32Bytes}
+use Rattle.model.specs.Bytes.{wordBytes, changeCount, changeBytes}
 
 -- the next piece moves from the rest to what is out
 pub moved : {A : Type 0} (out piece rest more all : List A) → more ≡ piece ++ rest → out ++ more ≡ all → (out ++ piece) ++ rest ≡ all

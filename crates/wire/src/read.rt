@@ -5,12 +5,12 @@ ghost use lib.ListN.{length, drop, getD};
 ghost use Rattle.model.specs.Bytes.{parse, readPageRequest, readPageReply, readDiff, readDiffApplied, wordsFrom, changesFrom, leftFrom};
 use crate::fields::u16_at;
 use crate::fields::u32_at;
-use model::LOCKS;
+use basics::LOCKS;
+use basics::PAGE_WORDS;
+use basics::PAGES;
+use basics::Refusal;
+use basics::STATIONS;
 use model::Message;
-use model::PAGE_WORDS;
-use model::PAGES;
-use model::Refusal;
-use model::STATIONS;
 
 // a change: its place and its word
 const CHANGE_BYTES: usize = 5;

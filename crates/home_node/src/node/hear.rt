@@ -16,8 +16,8 @@ use crate::answer::Sent;
 use crate::answer::done;
 use crate::answer::refused;
 use crate::locks::Locks;
+use basics::Refusal;
 use model::Message;
-use model::Refusal;
 use pages::page_words;
 use pages::patch;
 

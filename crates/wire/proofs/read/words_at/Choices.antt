@@ -1,7 +1,7 @@
 use Prim.Native.Nat.{ℕ, _+_, _*_, _<_}
 use mathlib.Core.Path.{_≡_}
 use lib.ListN.{length, getD}
-use Rattle.model.specs.Bytes.{u32At}
+use Rattle.basics.specs.Numbers.{u32At}
 use Rattle.wire.proofs.read.words_at.Given as given
 
 abbrev pub Inv-loop-place : given.InvT-loop-place

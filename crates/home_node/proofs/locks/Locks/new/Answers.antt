@@ -1,5 +1,5 @@
 use Rattle.std.specs.declared.option.Option.the-variants.{None}
-use Rattle.model.proofs.Tables.{filled}
+use Rattle.basics.proofs.Tables.{filled}
 use Rattle.home_node.proofs.Tables.{same-table}
 use Rattle.home_node.proofs.locks.Locks.new.Needs as need
 

@@ -6,7 +6,7 @@ use Prim.Native.Nat.{ℕ, zero, suc, _<_}
 use lib.ListN.{length, getD, set, replicate}
 use Rattle.std.proofs.shelf.Lists.{getD-set-same, getD-set-other}
 use Rattle.std.proofs.shelf.Ways.{eqb-tells}
-use Rattle.model.specs.Sizes.{put}
+use Rattle.basics.specs.Sizes.{put}
 
 put-at : {A : Type 0} (d x : A) (xs : List A) (i : ℕ) → i < length xs → (j : ℕ) → getD (set xs i x) j d ≡ put i x (λ k. getD xs k d) j
 put-at d x xs i h j =

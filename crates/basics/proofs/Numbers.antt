@@ -9,8 +9,7 @@ use Rattle.std.proofs.shelf.Elements.{all-drop, all-getD}
 use Rattle.std.proofs.shelf.Lists.{drop-more, drop-all, getD-past}
 use Rattle.std.proofs.shelf.Tests.{cases-lt}
 use Rattle.std.specs.shelf.Lists.{All}
-use Rattle.model.specs.Bytes.{u16Bytes, u32Bytes, u16At, u32At}
-use Rattle.promise.specs.Codec.{Word}
+use Rattle.basics.specs.Numbers.{Word, u16Bytes, u32Bytes, u16At, u32At}
 
 abbrev pub Bytes : List ℕ → Type 0
 Bytes bs = All (λ b. b < 256) bs

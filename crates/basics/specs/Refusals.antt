@@ -1,7 +1,7 @@
 -- The numbers of the refusals. Assumes nothing.
 use Prim.Native.Nat.{ℕ}
-use Rattle.model.specs.declared.Refusal.{Refusal}
-use Rattle.model.specs.declared.Refusal.the-variants.{Malformed, Waits, PageState, PagesFull, NotFlushed, LockState, StaleNumber, CounterFull}
+use Rattle.basics.specs.declared.Refusal.{Refusal}
+use Rattle.basics.specs.declared.Refusal.the-variants.{Malformed, Waits, PageState, PagesFull, NotFlushed, LockState, StaleNumber, CounterFull}
 
 abbrev pub numberOf : Refusal → ℕ
 numberOf Malformed = 1

@@ -1,0 +1,4 @@
+pub mod Events
+pub mod Bytes
+pub mod Order
+pub mod Memory

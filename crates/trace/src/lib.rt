@@ -1,0 +1,29 @@
+// What stations did: events, their ten bytes, and what is said of a trace of them.
+// Happens-before, races and one memory are defined in specs/.
+mod bytes;
+
+pub use bytes::decode;
+pub use bytes::encode;
+
+// What a station did. A read has the value that it gave, a write the value that it left.
+#[derive(Clone, Copy, Debug, PartialEq)]
+pub enum Event {
+    Read { station: u8, word: u32, value: u32 },
+    Write { station: u8, word: u32, value: u32 },
+    Acquire { station: u8, lock: u8 },
+    Release { station: u8, lock: u8 },
+}
+
+// An event and its place in the trace; the first has place 1.
+#[derive(Clone, Copy, Debug, PartialEq)]
+pub struct Placed {
+    pub place: u32,
+    pub event: Event,
+}
+
+// Two events that conflict, and neither happens before the other.
+#[derive(Clone, Copy, Debug, PartialEq)]
+pub struct Race {
+    pub earlier: Placed,
+    pub later: Placed,
+}
