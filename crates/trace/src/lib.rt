@@ -27,3 +27,12 @@ pub struct Race {
     pub earlier: Placed,
     pub later: Placed,
 }
+
+// What the two checks say of a trace.
+#[derive(Clone, Copy, Debug, PartialEq)]
+pub struct Verdict {
+    // the first race; none in a race-free trace
+    pub race: Option<Race>,
+    // the place of the first read that did not give what the last write left; none where there was one memory
+    pub stale: Option<u32>,
+}

@@ -1,0 +1,3 @@
+pub mod Inherited
+pub mod OneEvent
+pub mod WholeTrace

@@ -1,0 +1,13 @@
+pub mod Bounds
+pub mod Reaching
+pub mod Exact
+pub mod Vectors
+pub mod Latest
+pub mod Conflicts
+pub mod Found
+pub mod Unordered
+pub mod Held
+pub mod Firsts
+pub mod Races
+pub mod Stale
+pub mod Told
