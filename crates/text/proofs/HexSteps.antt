@@ -17,7 +17,7 @@ use Rattle.text.specs.Hex.{digitOf, hexOf, hexValue, byteOf, before, bytesFrom
 digit-back : (n : ℕ) → n < 16 → hexValue (digitOf n) ≡ Some n
 digit-back n small = grind (arith, tells)
 
-byte-back : (b : ℕ) → b < 256 → byteOf (digitOf (b / 16)) (digitOf (b % 16)) ≡ Some b
+pub byte-back : (b : ℕ) → b < 256 → byteOf (digitOf (b / 16)) (digitOf (b % 16)) ≡ Some b
 byte-back b small = rw (digit-back (b / 16) (div-below b 16 16 (omega arith) (omega arith)), digit-back (b % 16) (mod-below b 16 (omega arith))) (ap Some (div-add-mod' b 16))
 
 pub comes-back : (bs : List ℕ) → All (λ b. b < 256) bs → bytesFrom (hexOf bs) ≡ Some bs

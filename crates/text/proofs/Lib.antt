@@ -1,2 +1,2 @@
-mod HexSteps
+pub mod HexSteps
 mod NumberSteps

@@ -62,7 +62,7 @@ fn value(c: u8) -> Option<u8>
 }
 
 // The byte that two digits stand for, the high one first.
-fn byte(high: u8, low: u8) -> Option<u8>
+pub fn byte(high: u8, low: u8) -> Option<u8>
     ensures { λ r. ⌜ r ≡ byteOf high low ⌝ }
 {
     Some(value(high)? * 16 + value(low)?)

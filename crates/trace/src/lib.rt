@@ -1,5 +1,11 @@
 // What stations did: events, their ten bytes, and what is said of a trace of them.
 // Happens-before, races and one memory are defined in specs/.
+ghost use mathlib.Core.Path.{_≡_};
+ghost use Rattle.trace.specs.Events.{isKnown};
+use basics::LOCKS;
+use basics::STATIONS;
+use basics::WORDS;
+
 mod bytes;
 
 pub use bytes::decode;
@@ -12,6 +18,22 @@ pub enum Event {
     Write { station: u8, word: u32, value: u32 },
     Acquire { station: u8, lock: u8 },
     Release { station: u8, lock: u8 },
+}
+
+impl Event {
+    // What it names is there: its station, and its word or lock.
+    pub fn is_known(self) -> bool
+        ensures { λ r. ⌜ r ≡ isKnown self ⌝ }
+    {
+        match self {
+            Event::Read { station, word, .. } | Event::Write { station, word, .. } => {
+                station < STATIONS && (word as usize) < WORDS
+            }
+            Event::Acquire { station, lock } | Event::Release { station, lock } => {
+                station < STATIONS && lock < LOCKS
+            }
+        }
+    }
 }
 
 // An event and its place in the trace; the first has place 1.

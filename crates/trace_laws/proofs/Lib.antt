@@ -1,3 +1,3 @@
-pub mod Inherited
 pub mod OneEvent
 pub mod WholeTrace
+pub mod Inherited

@@ -61,3 +61,7 @@ met f e (on-write w a b) =
     record { word = w; first = right-or _ _ (some-is w _ a); second = touching w e b; written = left-or _ _ (some-is w _ a) }
 met f e (on-read w a b) =
     record { word = w; first = left-or _ _ (some-is w _ a); second = right-or _ _ (some-is w _ b); written = right-or _ _ (some-is w _ b) }
+
+pub two-writes : (f g : Event) (w : ℕ) → writes f ≡ Some w → writes g ≡ Some w → Conflict f g
+two-writes f g w a b =
+    record { word = w; first = right-or _ _ (some-is w _ a); second = right-or _ _ (some-is w _ b); written = left-or _ _ (some-is w _ a) }

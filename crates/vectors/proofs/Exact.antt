@@ -1,4 +1,4 @@
--- A vector counts just the events at the places of a set, and how that is kept. Assumes nothing.
+-- A vector that counts just the events at the places of a set: the greatest of two does so for both sets together, and one event more keeps it. Assumes nothing.
 use mathlib.Core.Path.{_≡_, sym, ap}
 use mathlib.Core.Logic.{_⊎_, inl, inr}
 use mathlib.Core.List.{List, _∷_}
@@ -12,9 +12,10 @@ use Rattle.basics.specs.Sizes.{put}
 use Rattle.trace.specs.declared.Event.{Event}
 use Rattle.trace.specs.Events.{by}
 use Rattle.trace.specs.Order.{eventAt}
+use Rattle.trace.proofs.Places.{at-cases}
 use Rattle.vectors.specs.Check.{Vector, greatest}
 use Rattle.vectors.specs.Laws.{count, Counts}
-use Rattle.vectors.proofs.Bounds.{greater-cases, greater-first, greater-second, greater-within, count-more, count-own, index-new, index-old, index-within, at-cases}
+use Rattle.vectors.proofs.Counting.{greater-cases, greater-first, greater-second, greater-within, count-more, count-own, index-new, index-old, index-within}
 
 -- it counts no more than there is, and an event just where its place is in the set
 pub record Exact (es : List Event) (v : Vector) (R : ℕ → Type 0) : Type 0 where
@@ -49,13 +50,13 @@ exact-more {es} f {v} {R} old x =
       within = λ j. omega (arith, x .within j, count-more j f es);
       counted =
           λ m e a c.
-          elim (at-cases es f m e a) [
+          elim (at-cases es f m a) [
             | inl t ↦ absurd (omega (arith, index-new (by e) es f m (t .0), x .within (by e)))
             | inr t ↦ x .counted m e (t .1) (omega (arith, index-old (by e) es f m (t .0)))
           ];
       counts =
           λ m e a r.
-          elim (at-cases es f m e a) [
+          elim (at-cases es f m a) [
             | inl t ↦ absurd (omega (arith, old m r))
             | inr t ↦ omega (arith, index-old (by e) es f m (t .0), x .counts m e (t .1) r)
           ];
@@ -84,7 +85,7 @@ module _ {es : List Event} (f : Event) {w : Vector} {R : ℕ → Type 0} (all : 
   own-before : (m : ℕ) (e : Event) → eventAt es m ≡ Some e → Counts (put (by f) (suc (w (by f))) w) es m e → Counts w es m e
   own-before m e a c =
       elim (cases-eq (by e) (by f)) [
-        | inl s ↦ omega (arith, ap w s, ap (λ s. count s es) s, index-within es m e a)
+        | inl s ↦ omega (arith, ap w s, ap (λ s. count s es) s, index-within es m a)
         | inr s ↦ omega (arith, other-entry w (by f) (by e) s)
       ]
 
@@ -98,13 +99,13 @@ module _ {es : List Event} (f : Event) {w : Vector} {R : ℕ → Type 0} (all : 
         within = own-within;
         counted =
             λ m e a c.
-            elim (at-cases es f m e a) [
+            elim (at-cases es f m a) [
               | inl t ↦ inl (t .0)
               | inr t ↦ inr (x .counted m e (t .1) (own-before m e (t .1) (omega (arith, index-old (by e) es f m (t .0)))))
             ];
         counts =
             λ m e a r.
-            elim (at-cases es f m e a) [
+            elim (at-cases es f m a) [
               | inl t ↦ omega (arith, index-new (by e) es f m (t .0), own-last e (t .1))
               | inr t ↦
                   elim r [

@@ -1,4 +1,4 @@
--- The later of two findings, and the latest among the stations: what holds of each holds of it, and it lies as late as any. Assumes nothing.
+-- The later of two findings, and the latest among the stations' reads: what holds of each holds of it, and it lies as late as any. Assumes nothing.
 use mathlib.Core.Logic.{inl, inr}
 use Prim.Native.Nat.{ℕ, zero, suc, _≤_, _<_}
 use native.Mathlib.Omega.{arith}

@@ -1,4 +1,4 @@
--- From which places the events of a kind are reached, and how that grows with one event more. Assumes nothing.
+-- What happens before the next event is what reaches an event of its station or, where it acquires a lock, a release of that lock. Assumes nothing.
 use mathlib.Core.Path.{_≡_, refl, sym, ap, _∙_}
 use mathlib.Core.Logic.{_⊎_, inl, inr}
 use mathlib.Core.List.{List, _∷_}
@@ -10,8 +10,7 @@ use Rattle.std.specs.declared.option.Option.the-variants.{Some, None}
 use Rattle.trace.specs.declared.Event.{Event}
 use Rattle.trace.specs.Events.{by, acquires, releases}
 use Rattle.trace.specs.Order.{eventAt, Before, own, lock, through}
-use Rattle.trace.proofs.Places.{at-within, at-last, at-more, before-rises, before-more, before-less}
-use Rattle.vectors.proofs.Bounds.{at-cases}
+use Rattle.trace.proofs.Places.{at-within, at-last, at-more, at-stays, at-cases, before-rises, before-more, before-less}
 
 -- an event of the kind is at the place or happens after it
 pub record Reached (es : List Event) (P : Event → Type 0) (m : ℕ) : Type 0 where
@@ -28,9 +27,13 @@ By i e = by e ≡ i
 abbrev pub Frees : ℕ → Event → Type 0
 Frees l e = releases e ≡ Some l
 
--- the next event is at the place or happens after it
+-- the next event happens after what is at the place
+abbrev pub Precedes : List Event → Event → ℕ → Type 0
+Precedes es f m = Before (f ∷ es) m (suc (length es))
+
+-- it is at the place or happens after it
 abbrev pub Ends : List Event → Event → ℕ → Type 0
-Ends es f m = (m ≡ suc (length es)) ⊎ Before (f ∷ es) m (suc (length es))
+Ends es f m = (m ≡ suc (length es)) ⊎ Precedes es f m
 
 -- a release of the lock, where there is one to acquire, is at the place or happens after it
 abbrev pub Freed : List Event → Option ℕ → ℕ → Type 0
@@ -43,7 +46,7 @@ Leads es f m = Reached es (By (by f)) m ⊎ Freed es (acquires f) m
 
 pub reached-within : (es : List Event) {P : Event → Type 0} {m : ℕ} → Reached es P m → m ≤ length es
 reached-within es r =
-    let k = at-within es (r .place) (r .event) (r .there) in
+    let k = at-within es (r .place) (r .there) in
     elim (r .way) [ inl s ↦ omega arith | inr b ↦ omega (arith, before-rises b) ]
 
 pub reached-more : (es : List Event) (f : Event) {P : Event → Type 0} {m : ℕ} → Reached es P m → Reached (f ∷ es) P m
@@ -51,13 +54,13 @@ reached-more es f r =
     record {
       place = r .place;
       event = r .event;
-      there = at-more es f (r .place) (at-within es (r .place) (r .event) (r .there)) ∙ r .there;
+      there = at-stays es f (r .place) (r .there);
       fits = r .fits;
       way = elim (r .way) [ inl s ↦ inl s | inr b ↦ inr (before-more f b) ];
     }
 
 -- what happens before a place from which it is reached
-pub reached-from : {es : List Event} {P : Event → Type 0} {m k : ℕ} → Before es m k → Reached es P k → Reached es P m
+reached-from : {es : List Event} {P : Event → Type 0} {m k : ℕ} → Before es m k → Reached es P k → Reached es P m
 reached-from {es} {P} {m} b r =
     record {
       place = r .place;
@@ -73,7 +76,7 @@ ends-more es f h w = record { place = suc (length es); event = f; there = at-las
 -- what is reached with one event more was reached before, or that event reaches it
 pub reached-less : (es : List Event) (f : Event) (P : Event → Type 0) (m : ℕ) → Reached (f ∷ es) P m → Reached es P m ⊎ (P f × Ends es f m)
 reached-less es f P m r =
-    elim (at-cases es f (r .place) (r .event) (r .there)) [
+    elim (at-cases es f (r .place) (r .there)) [
       | inl t ↦ inr (rw (t .1) at (r .fits), rw (t .0) at (r .way))
       | inr t ↦
           inl (record {
@@ -91,7 +94,7 @@ lead-through es (Some l) b r = reached-from b r
 
 -- the event at the new last place
 last-is : (es : List Event) (f g : Event) (n : ℕ) → n ≡ suc (length es) → eventAt (f ∷ es) n ≡ Some g → g ≡ f
-last-is es f g n h b = elim (at-cases es f n g b) [ inl t ↦ t .1 | inr t ↦ absurd (omega arith) ]
+last-is es f g n h b = elim (at-cases es f n b) [ inl t ↦ t .1 | inr t ↦ absurd (omega arith) ]
 
 -- WHAT HAPPENS BEFORE THE NEXT EVENT is what leads to it.
 pub before-leads : (es : List Event) (f : Event) {m n : ℕ} → n ≡ suc (length es) → Before (f ∷ es) m n → Leads es f m
@@ -105,21 +108,17 @@ before-leads es f h (through k x y) =
     elim (before-leads es f h y) [ inl r ↦ inl (reached-from z r) | inr r ↦ inr (lead-through es (acquires f) z r) ]
 
 -- by way of an event that the next one follows directly
-by-way : (es : List Event) (f : Event) {P : Event → Type 0} {m : ℕ} (r : Reached es P m) → Before (f ∷ es) (r .place) (suc (length es)) → Before (f ∷ es) m (suc (length es))
+by-way : (es : List Event) (f : Event) {P : Event → Type 0} {m : ℕ} (r : Reached es P m) → Precedes es f (r .place) → Precedes es f m
 by-way es f r b = elim (r .way) [ inl s ↦ rw s b | inr c ↦ through (r .place) (before-more f c) b ]
 
-module _ (es : List Event) (f : Event) {P : Event → Type 0} {m : ℕ} (r : Reached es P m) where
-  old-place : r .place ≤ length es
-  old-place = at-within es (r .place) (r .event) (r .there)
-
-  still-there : eventAt (f ∷ es) (r .place) ≡ Some (r .event)
-  still-there = at-more es f (r .place) old-place ∙ r .there
-
-freed-before : (es : List Event) (f : Event) (m : ℕ) (a : Option ℕ) → acquires f ≡ a → Freed es a m → Before (f ∷ es) m (suc (length es))
+freed-before : (es : List Event) (f : Event) (m : ℕ) (a : Option ℕ) → acquires f ≡ a → Freed es a m → Precedes es f m
 freed-before es f m None q r = absurd r
 freed-before es f m (Some l) q r =
-    by-way es f r (lock (r .event) f l (still-there es f r) (at-last es f) (omega (arith, old-place es f r)) (r .fits) q)
+    let k = at-within es (r .place) (r .there) in
+    by-way es f r (lock (r .event) f l (at-stays es f (r .place) (r .there)) (at-last es f) (omega arith) (r .fits) q)
 
-pub leads-before : (es : List Event) (f : Event) (m : ℕ) → Leads es f m → Before (f ∷ es) m (suc (length es))
-leads-before es f m (inl r) = by-way es f r (own (r .event) f (still-there es f r) (at-last es f) (omega (arith, old-place es f r)) (r .fits))
+pub leads-before : (es : List Event) (f : Event) (m : ℕ) → Leads es f m → Precedes es f m
+leads-before es f m (inl r) =
+    let k = at-within es (r .place) (r .there) in
+    by-way es f r (own (r .event) f (at-stays es f (r .place) (r .there)) (at-last es f) (omega arith) (r .fits))
 leads-before es f m (inr r) = freed-before es f m (acquires f) refl r

@@ -1,8 +1,8 @@
--- What happens before a station's next event is what its vector counts, by induction over the trace. Assumes nothing.
+-- What happens before the next event is what its vector counts: event after event, each station's and each lock's vector counts what reaches it. Assumes nothing.
 use mathlib.Core.Path.{_≡_, refl, sym, ap, _∙_}
 use mathlib.Core.Logic.{_⊎_, inl, inr}
 use mathlib.Core.List.{List, [], _∷_}
-use Prim.Native.Nat.{ℕ, suc, _≤_}
+use Prim.Native.Nat.{ℕ, suc}
 use native.Mathlib.Omega.{arith}
 use Rattle.std.proofs.shelf.Ways.{tells, eqb-tells}
 use Rattle.std.specs.declared.option.Option.{Option}
@@ -12,15 +12,15 @@ use Rattle.trace.specs.Events.{by, acquires, releases}
 use Rattle.trace.proofs.Places.{before-rises}
 use Rattle.vectors.specs.Check.{Vector, Clocks, joined, before, upTo, changed, greatest, clocksWith, after}
 use Rattle.vectors.specs.Laws.{count, VectorsTell}
-use Rattle.vectors.proofs.Bounds.{count-own}
+use Rattle.vectors.proofs.Counting.{count-own}
 use Rattle.vectors.proofs.Reaching.{Reached, By, Frees, Ends, Freed, Leads, reached-within, reached-more, reached-less, ends-more, before-leads, leads-before}
 use Rattle.vectors.proofs.Exact.{Exact, exact-same, exact-join, exact-more, exact-own}
 
 -- what holds at each time: a station's vector counts what its events reach, a lock's what its releases reach
-pub record Sound (es : List Event) (c : Clocks) : Type 0 where
-  pub stations : (i : ℕ) → Exact es (c .station i) (Reached es (By i))
-  pub locks : (l : ℕ) → Exact es (c .lock l) (Reached es (Frees l))
-  pub own : (i : ℕ) → c .station i i ≡ count i es
+record Sound (es : List Event) (c : Clocks) : Type 0 where
+  stations : (i : ℕ) → Exact es (c .station i) (Reached es (By i))
+  locks : (l : ℕ) → Exact es (c .lock l) (Reached es (Frees l))
+  own : (i : ℕ) → c .station i i ≡ count i es
 
 module _ {es : List Event} {c : Clocks} (k : Sound es c) where
   joined-exact : (i : ℕ) (a : Option ℕ) → Exact es (joined (c .lock) a (c .station i)) (λ m. Reached es (By i) m ⊎ Freed es a m)
@@ -31,7 +31,7 @@ module _ {es : List Event} {c : Clocks} (k : Sound es c) where
   joined-own i None = k .own i
   joined-own i (Some l) = let o = k .own i in let b = k .locks l .within i in grind (arith, tells)
 
-  pub before-exact : (f : Event) → Exact es (before c f) (Leads es f)
+  before-exact : (f : Event) → Exact es (before c f) (Leads es f)
   before-exact f = joined-exact (by f) (acquires f)
 
   upTo-exact : (f : Event) → Exact (f ∷ es) (upTo c f) (Ends es f)
@@ -74,11 +74,11 @@ module _ {es : List Event} {c : Clocks} (k : Sound es c) where
   locks-more :
       (f : Event) (l : ℕ) (r : Option ℕ) → releases f ≡ r →
       Exact (f ∷ es) (changed r (λ v. greatest v (upTo c f)) (c .lock) l) (Reached (f ∷ es) (Frees l))
-  locks-more f l None h = others-exact f (Frees l) (λ e. let z : _≡_ {A = ℕ} 0 1 = cc in omega arith) (k .locks l)
+  locks-more f l None h = others-exact f (Frees l) (λ e. grind arith) (k .locks l)
   locks-more f l (Some o) h =
       elim (eqb-tells l o) [
         | inl t ↦ rw (t .0, t .1) (lock-exact f o h)
-        | inr t ↦ rw (t .0) (others-exact f (Frees l) (λ e. t .1 (cc)) (k .locks l))
+        | inr t ↦ rw (t .0) (others-exact f (Frees l) (λ e. t .1 cc) (k .locks l))
       ]
 
   own-more : (f : Event) (i : ℕ) → clocksWith c f .station i i ≡ count i (f ∷ es)
@@ -96,9 +96,13 @@ module _ {es : List Event} {c : Clocks} (k : Sound es c) where
 none-exact : {R : ℕ → Type 0} → Exact [] (λ j. 0) R
 none-exact = record { within = λ j. omega arith; counted = λ m e a c. absurd (omega arith); counts = λ m e a r. absurd (grind (arith, a)) }
 
-pub always-sound : (es : List Event) → Sound es (after es .clocks)
+always-sound : (es : List Event) → Sound es (after es .clocks)
 always-sound [] = record { stations = λ i. none-exact; locks = λ l. none-exact; own = λ i. refl }
 always-sound (f ∷ es) = sound-more (always-sound es) f
+
+-- the vector of the next event
+abbrev pub vector : List Event → Event → Vector
+vector es e = before (after es .clocks) e
 
 pub vectors-tell : VectorsTell
 vectors-tell es f =
@@ -108,10 +112,6 @@ vectors-tell es f =
       happens = λ m e a c. leads-before es f m (x .counted m e a c);
     }
 
--- an event's vector counts all earlier events of its own station
-pub own-count : (es : List Event) (e : Event) → before (after es .clocks) e (by e) ≡ count (by e) es
+-- it counts all earlier events of the event's own station
+pub own-count : (es : List Event) (e : Event) → vector es e (by e) ≡ count (by e) es
 own-count es e = joined-own (always-sound es) (by e) (acquires e)
-
--- no vector counts more events than there were
-pub before-within : (es : List Event) (e : Event) (j : ℕ) → before (after es .clocks) e j ≤ count j es
-before-within es e j = before-exact (always-sound es) e .within j

@@ -10,6 +10,7 @@ use Rattle.std.specs.declared.option.Option.the-variants.{Some, None}
 use Rattle.std.specs.shelf.Lists.{All}
 use Rattle.trace.specs.declared.Event.{Event}
 use Rattle.trace.specs.declared.Race.{Race}
+use Rattle.trace.specs.declared.Verdict.{Verdict}
 use Rattle.trace.specs.Events.{by, isKnown}
 use Rattle.trace.specs.Order.{eventAt, Before, RaceFree, FirstRace}
 use Rattle.trace.specs.Memory.{earlier, OneMemory, FirstStale}
@@ -50,9 +51,13 @@ StaleSaid es (Some n) = FirstStale es n
 abbrev pub Known : List Event → Type 0
 Known es = All (λ e. T (isKnown e)) es
 
-pub record Judged (es : List Event) (t : Tables) : Type 0 where
-  pub race : RaceSaid es (t .race)
-  pub stale : StaleSaid es (t .stale)
+-- a verdict is right of a trace
+pub record Judged (es : List Event) (v : Verdict) : Type 0 where
+  pub race : RaceSaid es (v .race)
+  pub stale : StaleSaid es (v .stale)
+
+abbrev pub verdictOf : Tables → Verdict
+verdictOf t = record { race = t .race; stale = t .stale }
 
 abbrev pub CheckTells : Type 0
-CheckTells = (es : List Event) → Known es → Judged es (after es)
+CheckTells = (es : List Event) → Known es → Judged es (verdictOf (after es))

@@ -1,0 +1,6 @@
+pub mod Advancing
+pub mod Feeding
+pub mod ReadSteps
+pub mod Starting
+pub mod Taken
+pub mod Vectors

@@ -1,0 +1,73 @@
+// What each kind of event does to the vectors.
+ghost use mathlib.Core.Path.{_≡_};
+ghost use Prim.Native.Nat.{_<_};
+ghost use Rattle.trace.specs.declared.Event.the-variants.{Read, Acquire, Release};
+ghost use Rattle.vectors.specs.Check.{before, clocksWith, empty, upTo};
+ghost use Rattle.race_check.specs.Rows.{vectorOf};
+ghost use Rattle.race_check.specs.States.{clocksOf};
+use crate::clocks::VectorClocks;
+use crate::vector::counted;
+use crate::vector::greatest;
+use crate::vector::store;
+
+impl VectorClocks {
+    // Nothing has happened yet.
+    pub fn new() -> VectorClocks
+        ensures { λ r. ⌜ clocksOf r ≡ empty .clocks ⌝ }
+    {
+        VectorClocks {
+            stations: [[0; 16]; 16],
+            locks: [[0; 16]; 64],
+        }
+    }
+
+    // The vector of a station: how many events of each come before its next.
+    pub fn of(&self, station: u8) -> [u32; 16]
+        requires known { ⌜ station < 16 ⌝ }
+        ensures { λ r. ⌜ vectorOf r ≡ clocksOf (now (self .entry)) .station station ⌝ }
+    {
+        self.stations[station as usize]
+    }
+
+    // The greatest of the vectors of all releases of a lock.
+    fn of_lock(&self, lock: u8) -> [u32; 16]
+        requires known { ⌜ lock < 64 ⌝ }
+        ensures { λ r. ⌜ vectorOf r ≡ clocksOf (now (self .entry)) .lock lock ⌝ }
+    {
+        self.locks[lock as usize]
+    }
+
+    // An event that neither acquires nor releases; gives its station's count.
+    pub fn access(&mut self, station: u8) -> u32
+        requires known { ⌜ station < 16 ⌝ }
+        requires room { ⌜ clocksOf (now self) .station station station < 4294967295 ⌝ }
+        ensures clocks { λ _. ⌜ clocksOf (now (self .exit)) ≡ clocksWith (clocksOf (now (self .entry))) (Read station 0 0) ⌝ }
+        ensures count { λ r. ⌜ r ≡ upTo (clocksOf (now (self .entry))) (Read station 0 0) station ⌝ }
+    {
+        let after = counted(self.of(station), station);
+        store(&mut self.stations, station, after);
+        after[station as usize]
+    }
+
+    pub fn acquire(&mut self, station: u8, lock: u8)
+        requires known { ⌜ station < 16 ⌝ }
+        requires lock { ⌜ lock < 64 ⌝ }
+        requires room { ⌜ before (clocksOf (now self)) (Acquire station lock) station < 4294967295 ⌝ }
+        ensures { λ _. ⌜ clocksOf (now (self .exit)) ≡ clocksWith (clocksOf (now (self .entry))) (Acquire station lock) ⌝ }
+    {
+        let joined = greatest(self.of(station), self.of_lock(lock));
+        store(&mut self.stations, station, counted(joined, station));
+    }
+
+    pub fn release(&mut self, station: u8, lock: u8)
+        requires known { ⌜ station < 16 ⌝ }
+        requires lock { ⌜ lock < 64 ⌝ }
+        requires room { ⌜ clocksOf (now self) .station station station < 4294967295 ⌝ }
+        ensures { λ _. ⌜ clocksOf (now (self .exit)) ≡ clocksWith (clocksOf (now (self .entry))) (Release station lock) ⌝ }
+    {
+        let after = counted(self.of(station), station);
+        let greatest = greatest(self.of_lock(lock), after);
+        store(&mut self.stations, station, after);
+        store(&mut self.locks, lock, greatest);
+    }
+}

@@ -1,0 +1,3 @@
+pub mod Chars
+pub mod Parts
+pub mod Text
