@@ -4,3 +4,4 @@ pub mod ReadSteps
 pub mod Starting
 pub mod Taken
 pub mod Vectors
+pub mod Wholes

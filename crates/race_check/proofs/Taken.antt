@@ -1,5 +1,5 @@
 -- What the code does with a read and a write, piece by piece, is one step of the check. Assumes nothing.
-use mathlib.Core.Path.{_≡_, refl}
+use mathlib.Core.Path.{_≡_, refl, sym, ap, _∙_}
 use Prim.Native.Nat.{ℕ, suc}
 use Rattle.std.specs.declared.option.Option.{Option}
 use Rattle.std.specs.declared.option.Option.the-variants.{Some, None}
@@ -25,6 +25,10 @@ with-verdict :
     (t : Tables) (e : Event) (r : Option Race) (n : Option ℕ) → r ≡ stepped t e .race → n ≡ stepped t e .stale →
     _≡_ {A = Tables} (record { places = suc (t .places); clocks = clocksWith (t .clocks) e; write = stepped t e .write; read = stepped t e .read; race = r; stale = n }) (stepped t e)
 with-verdict t e r n p q = rw (p, q) refl
+
+-- a step taken for the event that it is
+pub as-event : (t u : Tables) (e f : Event) → e ≡ f → u ≡ stepped t f → u ≡ stepped t e
+as-event t u e f same step = step ∙ ap (stepped t) (sym same)
 
 -- an event on a lock: only the vectors change
 module _ (t : Tables) (place : ℕ) (next : place ≡ suc (t .places)) (clocks : Clocks) (s l : ℕ) where

@@ -13,7 +13,7 @@ use Rattle.basics.specs.declared.Refusal.the-variants.{Malformed, CounterFull}
 use Rattle.trace.specs.declared.Event.{Event}
 use Rattle.trace.specs.Events.{isKnown}
 use Rattle.vectors.specs.Check.{Tables}
-use Rattle.race_check.specs.declared.check.Check.{Check}
+use Rattle.race_check.specs.declared.state.Check.{Check}
 use Rattle.race_check.specs.States.{tablesOf, Led}
 
 abbrev pub checkOf : Check → Tables

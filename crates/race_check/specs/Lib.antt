@@ -1,3 +1,4 @@
 pub mod Rows
 pub mod States
 pub mod Checks
+pub mod Whole

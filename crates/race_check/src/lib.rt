@@ -1,9 +1,15 @@
 // The check of a trace, event by event: is it race-free, and was there one memory?
-mod check;
 mod clocks;
 mod found;
+mod state;
 mod step;
 mod vector;
+mod whole;
 mod words;
 
-pub use check::Check;
+pub use state::Check;
+pub use whole::Unchecked;
+pub use whole::UncheckedDebug;
+pub use whole::UncheckedFromAlloc;
+pub use whole::UncheckedPartialEq;
+pub use whole::check;

@@ -4,6 +4,7 @@ ghost use Prim.Native.Nat.{_<_};
 mod bytes;
 
 // The bytes so far of an event that is not whole yet.
+#[derive(Clone, Copy)]
 pub struct Reader {
     part: [u8; 10],
     filled: usize,

@@ -2,7 +2,7 @@ use mathlib.Core.Path.{_∙_}
 use Rattle.race_check.specs.Checks.{checkOf}
 use Rattle.race_check.specs.Rows.{writesOf}
 use Rattle.race_check.proofs.Feeding.{writers, room-for-one, led-on, reached-on, refilled-step}
-use Rattle.race_check.proofs.check.Check.feed.Needs as need
+use Rattle.race_check.proofs.state.Check.feed.Needs as need
 
 pub take-in-self-requires : need.take-in-self-requires
 take-in-self-requires c κs =

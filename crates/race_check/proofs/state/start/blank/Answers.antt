@@ -1,7 +1,7 @@
 use mathlib.Core.List.{[]}
 use Rattle.std.specs.Of.Vec.{vec-items}
 use Rattle.race_check.proofs.Starting.{started, whole}
-use Rattle.race_check.proofs.check.start.blank.Needs as need
+use Rattle.race_check.proofs.state.start.blank.Needs as need
 
 pub ghost-result : need.ghost-result
 ghost-result c =

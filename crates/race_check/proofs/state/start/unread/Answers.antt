@@ -2,7 +2,7 @@ use native.Mathlib.Omega.{arith}
 use lib.ListN.{replicate}
 use Rattle.vectors.specs.Check.{never}
 use Rattle.race_check.proofs.Starting.{one-more, all-there}
-use Rattle.race_check.proofs.check.start.unread.Needs as need
+use Rattle.race_check.proofs.state.start.unread.Needs as need
 
 pub loop-word-again : need.loop-word-again
 loop-word-again c =

@@ -8,7 +8,7 @@ ghost use Rattle.trace.specs.Events.{isKnown};
 ghost use Rattle.vectors.specs.Check.{stepped};
 ghost use Rattle.race_check.specs.Checks.{checkOf, accepted, Fed};
 ghost use Rattle.race_check.specs.States.{Led};
-use crate::check::Check;
+use crate::state::Check;
 use crate::step::take_in;
 use basics::Refusal;
 use trace::Event;

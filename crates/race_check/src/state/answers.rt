@@ -13,7 +13,7 @@ ghost use Rattle.vectors.specs.Laws.{Judged, Tells, verdictOf};
 ghost use Rattle.race_check.specs.Checks.{checkOf};
 ghost use Rattle.race_check.specs.Rows.{vectorOf};
 ghost use Rattle.race_check.specs.States.{Led};
-use crate::check::Check;
+use crate::state::Check;
 use basics::Refusal;
 use basics::STATIONS;
 use trace::Verdict;

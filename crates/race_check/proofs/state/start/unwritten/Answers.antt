@@ -6,7 +6,7 @@ use Rattle.std.specs.Of.Vec.{vec-items}
 use Rattle.std.specs.declared.alloc.Global.{Global}
 use Rattle.std.specs.declared.vec.Vec.{Vec}
 use Rattle.std.proofs.shelf.Results.{made-weaker}
-use Rattle.race_check.proofs.check.start.unwritten.Needs as need
+use Rattle.race_check.proofs.state.start.unwritten.Needs as need
 
 pub returns : need.returns
 returns c =

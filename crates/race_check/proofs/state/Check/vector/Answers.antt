@@ -1,6 +1,6 @@
 use Rattle.race_check.specs.Rows.{vectorOf}
 use Rattle.race_check.proofs.Feeding.{vector-tells}
-use Rattle.race_check.proofs.check.Check.vector.Needs as need
+use Rattle.race_check.proofs.state.Check.vector.Needs as need
 
 pub returns : need.returns
 returns c = record { vector = c .of .ensures; tells = λ es next l b a. vector-tells _ (vectorOf (c .of .result)) (c .args .station) es next l b a (c .of .ensures) }
