@@ -1,0 +1,3 @@
+pub mod KnownEvents
+pub mod Steps
+pub mod Pieces
