@@ -22,7 +22,12 @@ enum Form {
 }
 
 // Reads the whole trace, piece by piece, or up to what is refused.
-fn read_all(input: &mut impl Read, form: Form, judge: &mut Judge, buffer: &mut [u8]) -> io::Result<Result<(), Refusal>> {
+fn read_all(
+    input: &mut impl Read,
+    form: Form,
+    judge: &mut Judge,
+    buffer: &mut [u8],
+) -> io::Result<Result<(), Refusal>> {
     for _ in 0..u64::MAX {
         let n = input.read(buffer)?;
         if n == 0 {

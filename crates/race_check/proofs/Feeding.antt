@@ -26,7 +26,7 @@ use Rattle.std.proofs.shelf.Lists.{refilled-is}
 use Rattle.vectors.specs.declared.Access.{Access}
 use Rattle.vectors.specs.declared.LastWrite.{LastWrite}
 use Rattle.race_check.specs.declared.clocks.VectorClocks.{VectorClocks}
-use Rattle.race_check.specs.declared.found.Progress.{Progress}
+use Rattle.race_check.specs.declared.progress.Progress.{Progress}
 use Rattle.race_check.specs.States.{tablesOf, Led, Reached}
 
 count-within : (s : ℕ) (es : List Event) → count s es ≤ length es

@@ -13,7 +13,7 @@ use Rattle.vectors.specs.declared.Access.{Access}
 use Rattle.vectors.specs.declared.LastWrite.{LastWrite}
 use Rattle.vectors.specs.Check.{never, unwritten, empty}
 use Rattle.race_check.specs.declared.clocks.VectorClocks.{VectorClocks}
-use Rattle.race_check.specs.declared.found.Progress.{Progress}
+use Rattle.race_check.specs.declared.progress.Progress.{Progress}
 use Rattle.race_check.specs.Rows.{readsOf, writesOf}
 use Rattle.race_check.specs.States.{clocksOf, tablesOf, Led}
 

@@ -8,7 +8,7 @@ use Rattle.vectors.specs.declared.LastWrite.{LastWrite}
 use Rattle.vectors.specs.Check.{Clocks, Tables, after}
 use Rattle.vectors.specs.Laws.{Known}
 use Rattle.race_check.specs.declared.clocks.VectorClocks.{VectorClocks}
-use Rattle.race_check.specs.declared.found.Progress.{Progress}
+use Rattle.race_check.specs.declared.progress.Progress.{Progress}
 use Rattle.race_check.specs.Rows.{vectorsOf, readsOf, writesOf}
 
 abbrev pub clocksOf : VectorClocks → Clocks

@@ -1,11 +1,10 @@
 // The check of a trace, event by event: is it race-free, and was there one memory?
+mod accesses;
 mod clocks;
-mod found;
+mod progress;
 mod state;
 mod step;
-mod vector;
 mod whole;
-mod words;
 
 pub use state::Check;
 pub use whole::Unchecked;

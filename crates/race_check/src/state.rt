@@ -3,7 +3,7 @@ ghost use mathlib.Core.Path.{_≡_};
 ghost use Rattle.std.specs.Of.Vec.{vec-items, vec-len};
 ghost use Rattle.race_check.specs.States.{tablesOf, Reached};
 use crate::clocks::VectorClocks;
-use crate::found::Progress;
+use crate::progress::Progress;
 use vectors::Access;
 use vectors::LastWrite;
 

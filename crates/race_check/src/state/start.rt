@@ -8,7 +8,7 @@ ghost use Rattle.vectors.specs.Check.{empty, never, unwritten};
 ghost use Rattle.race_check.specs.Checks.{checkOf};
 ghost use Rattle.race_check.specs.States.{clocksOf, Led};
 use crate::clocks::VectorClocks;
-use crate::found::Progress;
+use crate::progress::Progress;
 use crate::state::Check;
 use basics::WORDS;
 use std::alloc::AllocError;

@@ -2,7 +2,7 @@ use mathlib.Core.Path.{refl}
 use native.Mathlib.Omega.{arith}
 use Rattle.race_check.specs.States.{tablesOf}
 use Rattle.race_check.proofs.Taken.{write-taken}
-use Rattle.race_check.proofs.step.write.Needs as need
+use Rattle.race_check.proofs.accesses.write.Needs as need
 
 pub returns : need.returns
 returns c =

@@ -1,5 +1,5 @@
 use Rattle.race_check.proofs.ReadSteps.{none-at-first, one-more}
-use Rattle.race_check.proofs.words.unordered_read.Needs as need
+use Rattle.race_check.proofs.accesses.unordered_read.Needs as need
 
 pub loop-station-holds : need.loop-station-holds
 loop-station-holds c = none-at-first _ _ _
