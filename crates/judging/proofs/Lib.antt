@@ -1,3 +1,4 @@
 pub mod KnownEvents
+pub mod Whole
 pub mod Steps
 pub mod Pieces

@@ -1,2 +1,3 @@
 pub mod Fed
 pub mod Judges
+pub mod Laws

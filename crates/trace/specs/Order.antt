@@ -2,7 +2,7 @@
 --
 -- A trace is a list of events, THE LATEST FIRST: what came before an event stands behind it. The place of an event is how many events there were by then: the first has place 1.
 use mathlib.Core.Path.{_≡_}
-use mathlib.Core.Bool.{cond, _&&_, _||_}
+use mathlib.Core.Bool.{cond, _||_}
 use mathlib.Core.List.{List, [], _∷_}
 use Prim.Native.Nat.{ℕ, suc, _<_, _≤_}
 use lib.Dec.{eqb, T}
@@ -10,7 +10,7 @@ use lib.ListN.{length}
 use Rattle.std.specs.declared.option.Option.{Option}
 use Rattle.std.specs.declared.option.Option.the-variants.{Some, None}
 use Rattle.trace.specs.declared.Event.{Event}
-use Rattle.trace.specs.Events.{by, reads, writes, acquires, releases, is, touches}
+use Rattle.trace.specs.Events.{by, writes, acquires, releases, is, touches}
 
 abbrev pub eventAt : List Event → ℕ → Option Event
 eventAt [] n = None
