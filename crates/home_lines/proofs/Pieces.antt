@@ -4,7 +4,6 @@ use mathlib.Core.List.{List, _++_}
 use Prim.Native.Nat.{ℕ}
 use native.Mathlib.Omega.{arith}
 use mathlib.Core.Bool.{Bool, true, false, cond}
-use lib.Chars.{codes}
 use Rattle.std.specs.Vec.{made}
 use Rattle.std.specs.declared.option.Option.{Option}
 use Rattle.std.specs.declared.option.Option.the-variants.{Some, None}
@@ -17,18 +16,10 @@ use Rattle.text.specs.declared.Fault.{Fault}
 use Rattle.text.specs.declared.Fault.the-variants as faults
 use Rattle.text.specs.Faults.{Refuses}
 use Rattle.text.specs.Line.{Meaning, ShowWord}
-use Rattle.std.proofs.shelf.Lists.{append-assoc}
 use Rattle.std.specs.Written.{decimal}
 use Rattle.basics.specs.declared.Refusal.{Refusal}
-use Rattle.basics.specs.Refusals.{numberOf}
-use Rattle.home_lines.specs.Output.{line, refusalLine, shown, followed}
-
--- a refusal: its words, then its number
-pub refusal-written :
-    (out mid end : List ℕ) (number : ℕ) (why : Refusal) → number ≡ numberOf why → mid ≡ out ++ codes "turned away " → end ≡ mid ++ line (decimal number) →
-    end ≡ out ++ refusalLine why
-refusal-written out mid end number why n e f =
-    f ∙ ap (λ l. l ++ line (decimal number)) e ∙ append-assoc out (codes "turned away ") (line (decimal number)) ∙ ap (λ m. out ++ (codes "turned away " ++ line (decimal m))) n
+use Rattle.lines.specs.Lines.{line, refusalLine}
+use Rattle.home_lines.specs.Output.{shown, followed}
 
 -- the same text by another name
 pub as-written : {X Y : Type 0} (r : Result X Y) (out end a b : List ℕ) → a ≡ b → made r (λ _. end ≡ out ++ a) → made r (λ _. end ≡ out ++ b)

@@ -1,8 +1,7 @@
 -- What the program `home` prints for a line, and the home afterwards. Assumes nothing.
 use mathlib.Core.Bool.{cond}
-use mathlib.Core.List.{List, [], _∷_, _++_}
+use mathlib.Core.List.{List, [], _++_}
 use Prim.Native.Nat.{ℕ}
-use lib.Chars.{codes}
 use Rattle.std.specs.Joined.{joined}
 use Rattle.std.specs.Written.{decimal}
 use Rattle.std.specs.declared.option.Option.{Option}
@@ -12,17 +11,10 @@ use Rattle.basics.specs.declared.Refusal.{Refusal}
 use Rattle.basics.specs.declared.Refusal.the-variants.{Malformed}
 use Rattle.model.specs.Bytes.{bytesOf}
 use Rattle.model.specs.Home.{HomeState, receives}
-use Rattle.basics.specs.Refusals.{numberOf}
 use Rattle.basics.specs.Sizes.{isWord}
+use Rattle.lines.specs.Lines.{line, refusalLine}
 use Rattle.text.specs.Hex.{hexOf}
 use Rattle.text.specs.Line.{Meaning, Nothing, ShowWord, Bytes}
-
--- text as a line of output
-abbrev pub line : List ℕ → List ℕ
-line text = text ++ 10 ∷ []
-
-abbrev pub refusalLine : Refusal → List ℕ
-refusalLine why = codes "turned away " ++ line (decimal (numberOf why))
 
 abbrev pub refusalLines : Option Refusal → List ℕ
 refusalLines None = []

@@ -3,17 +3,19 @@ ghost use mathlib.Core.List.{_++_};
 ghost use mathlib.Core.Path.{_≡_};
 ghost use Rattle.std.specs.Of.Vec.{vec-items};
 ghost use Rattle.std.specs.Vec.{made, refused};
-ghost use Rattle.std.specs.Written.{decimal};
 ghost use Rattle.home_node.specs.Answers.{sentOf};
 ghost use Rattle.home_node.specs.Homes.{homeOf};
 ghost use Rattle.std.specs.declared.option.Option.the-variants.{Some};
+ghost use Rattle.lines.specs.Lines.{refusalLine};
 ghost use Rattle.text.specs.Line.{meaningOf, meant, ShowWord};
 ghost use Rattle.text.specs.declared.Fault.the-variants.{Malformed, Memory};
-ghost use Rattle.home_lines.specs.Output.{line, refusalLine, refusalLines, messageLine, messageLines, answerLines, shown, followed};
+ghost use Rattle.home_lines.specs.Output.{refusalLines, messageLine, messageLines, answerLines, shown, followed};
 use basics::Refusal;
 use home_node::Answer;
 use home_node::Home;
 use home_node::Sent;
+use lines::push_refusal;
+use lines::push_value;
 use model::Message;
 use std::alloc::Global;
 use text::Fault;
@@ -22,7 +24,6 @@ use text::FaultFromRefused;
 use text::HomeLine;
 use text::home_line;
 use text::push_hex;
-use text::push_number;
 use wire::encode;
 
 // Answers one line of input, without its newline: what is printed goes behind what `out` holds already.
@@ -83,25 +84,6 @@ fn push_answer(heap: Global, answer: &Answer, out: &mut Vec<u8>) -> Result<(), F
 {
     push_refusals(out, answer.refusal)?;
     push_messages(heap, out, &answer.sent)?;
-    Ok(())
-}
-
-// A number and the end of the line.
-fn push_value(out: &mut Vec<u8>, value: u32) -> Result<(), Fault>
-    ensures printed { λ r. ⌜ made r (λ _. vec-items (now (out .exit)) ≡ vec-items (now (out .entry)) ++ line (decimal value)) ⌝ }
-    ensures memory { λ r. ⌜ refused r (λ e. e ≡ Memory) ⌝ }
-{
-    push_number(out, value)?;
-    out.push(b'\n')?;
-    Ok(())
-}
-
-fn push_refusal(out: &mut Vec<u8>, why: Refusal) -> Result<(), Fault>
-    ensures printed { λ r. ⌜ made r (λ _. vec-items (now (out .exit)) ≡ vec-items (now (out .entry)) ++ refusalLine why) ⌝ }
-    ensures memory { λ r. ⌜ refused r (λ e. e ≡ Memory) ⌝ }
-{
-    out.extend_from_slice(b"turned away ")?;
-    push_value(out, u32::from(why.number()))?;
     Ok(())
 }
 

@@ -1,19 +1,15 @@
 -- What `judge` prints of a verdict. Assumes nothing.
-use mathlib.Core.List.{List, [], _∷_, _++_}
+use mathlib.Core.List.{List, _++_}
 use Prim.Native.Nat.{ℕ}
 use lib.Chars.{codes}
 use Rattle.std.specs.declared.option.Option.{Option}
 use Rattle.std.specs.declared.option.Option.the-variants.{Some, None}
-use Rattle.std.specs.Written.{decimal}
+use Rattle.lines.specs.Lines.{line, numbered}
 use Rattle.trace.specs.declared.Event.{Event}
 use Rattle.trace.specs.declared.Event.the-variants.{Read, Write, Acquire, Release}
 use Rattle.trace.specs.declared.Placed.{Placed}
 use Rattle.trace.specs.declared.Race.{Race}
 use Rattle.trace.specs.declared.Verdict.{Verdict}
-
--- some words with a number behind them
-abbrev pub numbered : List ℕ → ℕ → List ℕ
-numbered text n = text ++ decimal n
 
 -- an event in words
 abbrev pub inWords : Event → List ℕ
@@ -21,9 +17,6 @@ inWords (Read s w v) = numbered (codes "station ") s ++ (numbered (codes " read 
 inWords (Write s w v) = numbered (codes "station ") s ++ (numbered (codes " wrote ") v ++ numbered (codes " to word ") w)
 inWords (Acquire s l) = numbered (codes "station ") s ++ numbered (codes " took lock ") l
 inWords (Release s l) = numbered (codes "station ") s ++ numbered (codes " freed lock ") l
-
-abbrev pub line : List ℕ → List ℕ
-line text = text ++ (10 ∷ [])
 
 -- its place, and what it was
 abbrev pub placedLine : Placed → List ℕ

@@ -4,13 +4,13 @@ ghost use mathlib.Core.Path.{_≡_};
 ghost use lib.Chars.{codes};
 ghost use Rattle.std.specs.Of.Vec.{vec-items};
 ghost use Rattle.std.specs.Vec.{made, refused};
-ghost use Rattle.std.specs.declared.option.Option.the-variants.{Some};
+ghost use Rattle.lines.specs.Lines.{numbered};
 ghost use Rattle.text.specs.declared.Fault.the-variants.{Memory};
-ghost use Rattle.verdict_lines.specs.Output.{numbered, inWords, line, placedLine, raceLines, memoryLine, verdictLines};
+ghost use Rattle.verdict_lines.specs.Output.{inWords, placedLine, raceLines, memoryLine, verdictLines};
+use lines::push_numbered;
 use text::Fault;
 use text::FaultFromAlloc;
 use text::FaultFromRefused;
-use text::push_number;
 use trace::Event;
 use trace::Placed;
 use trace::Race;
@@ -34,14 +34,23 @@ fn push_checks(out: &mut Vec<u8>, race: Option<Race>, stale: Option<u32>) -> Res
     Ok(())
 }
 
-// The first race, if there is one.
+// The first race, if there is one: the places of its events on one line, then each of them on a line of its own.
 fn push_race(out: &mut Vec<u8>, race: Option<Race>) -> Result<(), Fault>
     ensures printed { λ r. ⌜ made r (λ _. vec-items (now (out .exit)) ≡ vec-items (now (out .entry)) ++ raceLines race) ⌝ }
     ensures memory { λ r. ⌜ refused r (λ e. e ≡ Memory) ⌝ }
 {
     match race {
-        Some(race) => push_unordered(out, race.earlier, race.later),
-        None => push_line(out, b"orderly"),
+        Some(race) => {
+            push_numbered(out, b"unordered ", race.earlier.place)?;
+            push_numbered(out, b" ", race.later.place)?;
+            out.push(b'\n')?;
+            push_placed(out, race.earlier)?;
+            push_placed(out, race.later)
+        }
+        None => {
+            out.extend_from_slice(b"orderly\n")?;
+            Ok(())
+        }
     }
 }
 
@@ -51,41 +60,16 @@ fn push_memory(out: &mut Vec<u8>, stale: Option<u32>) -> Result<(), Fault>
     ensures memory { λ r. ⌜ refused r (λ e. e ≡ Memory) ⌝ }
 {
     match stale {
-        Some(place) => push_stale(out, place),
-        None => push_line(out, b"one memory"),
+        Some(place) => {
+            push_numbered(out, b"stale ", place)?;
+            out.push(b'\n')?;
+            Ok(())
+        }
+        None => {
+            out.extend_from_slice(b"one memory\n")?;
+            Ok(())
+        }
     }
-}
-
-// Two events that are not ordered: their places on one line, then each of them on a line of its own.
-fn push_unordered(out: &mut Vec<u8>, earlier: Placed, later: Placed) -> Result<(), Fault>
-    ensures printed { λ r. ⌜ made r (λ _. vec-items (now (out .exit)) ≡ vec-items (now (out .entry)) ++ raceLines (Some (record { earlier = earlier; later = later }))) ⌝ }
-    ensures memory { λ r. ⌜ refused r (λ e. e ≡ Memory) ⌝ }
-{
-    push_places(out, earlier.place, later.place)?;
-    push_placed(out, earlier)?;
-    push_placed(out, later)?;
-    Ok(())
-}
-
-// The places of two events that are not ordered.
-fn push_places(out: &mut Vec<u8>, earlier: u32, later: u32) -> Result<(), Fault>
-    ensures printed { λ r. ⌜ made r (λ _. vec-items (now (out .exit)) ≡ vec-items (now (out .entry)) ++ line (numbered (codes "unordered ") earlier ++ numbered (codes " ") later)) ⌝ }
-    ensures memory { λ r. ⌜ refused r (λ e. e ≡ Memory) ⌝ }
-{
-    push_numbered(out, b"unordered ", earlier)?;
-    push_numbered(out, b" ", later)?;
-    out.push(b'\n')?;
-    Ok(())
-}
-
-// The place of a read that did not give what the last write left.
-fn push_stale(out: &mut Vec<u8>, place: u32) -> Result<(), Fault>
-    ensures printed { λ r. ⌜ made r (λ _. vec-items (now (out .exit)) ≡ vec-items (now (out .entry)) ++ line (numbered (codes "stale ") place)) ⌝ }
-    ensures memory { λ r. ⌜ refused r (λ e. e ≡ Memory) ⌝ }
-{
-    push_numbered(out, b"stale ", place)?;
-    out.push(b'\n')?;
-    Ok(())
 }
 
 // The place of an event, and what it was.
@@ -110,61 +94,34 @@ fn push_event(out: &mut Vec<u8>, event: Event) -> Result<(), Fault>
             station,
             word,
             value,
-        } => push_access(out, station, b" read ", value, b" from word ", word),
+        } => {
+            push_did(out, station, b" read ", value)?;
+            push_numbered(out, b" from word ", word)
+        }
         Event::Write {
             station,
             word,
             value,
-        } => push_access(out, station, b" wrote ", value, b" to word ", word),
-        Event::Acquire { station, lock } => push_locking(out, station, b" took lock ", lock),
-        Event::Release { station, lock } => push_locking(out, station, b" freed lock ", lock),
+        } => {
+            push_did(out, station, b" wrote ", value)?;
+            push_numbered(out, b" to word ", word)
+        }
+        Event::Acquire { station, lock } => push_did(out, station, b" took lock ", u32::from(lock)),
+        Event::Release { station, lock } => push_did(
+            out,
+            station,
+            b" freed lock ",
+            u32::from(lock),
+        ),
     }
 }
 
-// What a station did with a value, and with which word.
-fn push_access(
-    out: &mut Vec<u8>,
-    station: u8,
-    did: &[u8],
-    value: u32,
-    with: &[u8],
-    word: u32,
-) -> Result<(), Fault>
-    ensures printed { λ r. ⌜ made r (λ _. vec-items (now (out .exit)) ≡ vec-items (now (out .entry)) ++ (numbered (codes "station ") station ++ (numbered (now (did .entry)) value ++ numbered (now (with .entry)) word))) ⌝ }
+// What a station did, with a number.
+fn push_did(out: &mut Vec<u8>, station: u8, did: &[u8], n: u32) -> Result<(), Fault>
+    ensures printed { λ r. ⌜ made r (λ _. vec-items (now (out .exit)) ≡ vec-items (now (out .entry)) ++ (numbered (codes "station ") station ++ numbered (now (did .entry)) n)) ⌝ }
     ensures memory { λ r. ⌜ refused r (λ e. e ≡ Memory) ⌝ }
 {
     push_numbered(out, b"station ", u32::from(station))?;
-    push_numbered(out, did, value)?;
-    push_numbered(out, with, word)?;
-    Ok(())
-}
-
-// What a station did with a lock.
-fn push_locking(out: &mut Vec<u8>, station: u8, did: &[u8], lock: u8) -> Result<(), Fault>
-    ensures printed { λ r. ⌜ made r (λ _. vec-items (now (out .exit)) ≡ vec-items (now (out .entry)) ++ (numbered (codes "station ") station ++ numbered (now (did .entry)) lock)) ⌝ }
-    ensures memory { λ r. ⌜ refused r (λ e. e ≡ Memory) ⌝ }
-{
-    push_numbered(out, b"station ", u32::from(station))?;
-    push_numbered(out, did, u32::from(lock))?;
-    Ok(())
-}
-
-// Words with a number behind them.
-fn push_numbered(out: &mut Vec<u8>, text: &[u8], n: u32) -> Result<(), Fault>
-    ensures printed { λ r. ⌜ made r (λ _. vec-items (now (out .exit)) ≡ vec-items (now (out .entry)) ++ numbered (now (text .entry)) n) ⌝ }
-    ensures memory { λ r. ⌜ refused r (λ e. e ≡ Memory) ⌝ }
-{
-    out.extend_from_slice(text)?;
-    push_number(out, n)?;
-    Ok(())
-}
-
-// Words and the end of the line.
-fn push_line(out: &mut Vec<u8>, text: &[u8]) -> Result<(), Fault>
-    ensures printed { λ r. ⌜ made r (λ _. vec-items (now (out .exit)) ≡ vec-items (now (out .entry)) ++ line (now (text .entry))) ⌝ }
-    ensures memory { λ r. ⌜ refused r (λ e. e ≡ Memory) ⌝ }
-{
-    out.extend_from_slice(text)?;
-    out.push(b'\n')?;
+    push_numbered(out, did, n)?;
     Ok(())
 }

@@ -1,6 +1,6 @@
 use borrow.Author.Needs.{needs}
 use Rattle.std.proofs.shelf.Lists.{append-assoc}
-use Rattle.verdict_lines.proofs.push_access.Needs as need
+use Rattle.lines.proofs.push_parts.Needs as need
 
 pub returns : need.returns
 returns c = search (needs, append-assoc)
