@@ -1,5 +1,5 @@
 -- Tables filled with zeros are the empty tables. Assumes nothing.
-use mathlib.Core.Path.{_≡_, refl, sym, ap, fun-ext, _∙_}
+use mathlib.Core.Path.{_≡_, refl, ap, fun-ext, _∙_}
 use mathlib.Core.List.{List, [], _∷_, _++_}
 use Prim.Native.Nat.{ℕ, zero, suc, _+_}
 use lib.ListN.{length, getD, replicate}
@@ -14,7 +14,8 @@ use Rattle.vectors.specs.declared.LastWrite.{LastWrite}
 use Rattle.vectors.specs.Check.{never, unwritten, empty}
 use Rattle.race_check.specs.declared.clocks.VectorClocks.{VectorClocks}
 use Rattle.race_check.specs.declared.progress.Progress.{Progress}
-use Rattle.race_check.specs.Rows.{readsOf, writesOf}
+use Rattle.race_check.specs.Kept.{noClocks}
+use Rattle.race_check.specs.Rows.{readsOf, vectorsOf, writesOf}
 use Rattle.race_check.specs.States.{clocksOf, tablesOf, Led}
 
 row-filled : {A : Type 0} (d : A) (m n i j : ℕ) → getD (getD (replicate n (replicate m d)) i []) j d ≡ d
@@ -29,13 +30,16 @@ rows-filled d m n = fun-ext (λ i. fun-ext (λ j. row-filled d m n i j))
 abbrev pub noProgress : Progress
 noProgress = record { places = 0; verdict = record { race = None; stale = None } }
 
+clocks-start : clocksOf noClocks ≡ empty .clocks
+clocks-start = ap (λ s. record { station = s; lock = vectorsOf (replicate 64 (replicate 16 0)) }) (rows-filled 0 16 16) ∙ ap (λ l. record { station = λ i j. 0; lock = l }) (rows-filled 0 16 64)
+
 pub started :
-    (c : VectorClocks) (ws : List LastWrite) (rs : List (List Access)) → clocksOf c ≡ empty .clocks → ws ≡ replicate 65536 unwritten → rs ≡ replicate 65536 (replicate 16 never) →
+    (c : VectorClocks) (ws : List LastWrite) (rs : List (List Access)) → c ≡ noClocks → ws ≡ replicate 65536 unwritten → rs ≡ replicate 65536 (replicate 16 never) →
     Led (tablesOf noProgress c ws rs) []
 started c ws rs e f g =
     let writes : writesOf ws ≡ empty .write = ap writesOf f ∙ filled unwritten 65536 in
     let reads : readsOf rs ≡ empty .read = ap readsOf g ∙ rows-filled never 16 65536 in
-    record { known = tt; leads = rw (e, writes, reads) refl }
+    record { known = tt; leads = rw (ap clocksOf e ∙ clocks-start, writes, reads) refl }
 
 pub whole : {A : Type 0} (d : A) (n : ℕ) (v : Vec A Global) → vec-items v ≡ replicate n d → vec-len v ≡ n
 whole d n v e = v .ok .0 ∙ ap length e ∙ length-replicate n d

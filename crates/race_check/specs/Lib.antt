@@ -1,4 +1,5 @@
 pub mod Rows
+pub mod Kept
 pub mod States
 pub mod Checks
 pub mod Whole

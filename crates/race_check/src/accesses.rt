@@ -1,12 +1,11 @@
 // Reads and writes: each is held against the last write of its word, a write also against each station's last read. The tables are lent.
 ghost use mathlib.Core.Path.{_≡_};
 ghost use Prim.Native.Nat.{_<_};
-ghost use lib.ListN.{length};
-ghost use Rattle.basics.specs.Sizes.{put};
-ghost use Rattle.trace.specs.declared.Event.the-variants.{Read, Write};
-ghost use Rattle.vectors.specs.Check.{either, later, raceWith, staleOf, stepped, unordered, unorderedRead, unorderedWrite};
-ghost use Rattle.race_check.specs.Rows.{vectorOf, accessesOf, readsOf, writesOf};
-ghost use Rattle.race_check.specs.States.{clocksOf, tablesOf, Writers};
+ghost use lib.ListN.{length, getD, set};
+ghost use Rattle.vectors.specs.Check.{either, later, raceWith, staleOf, unordered, unorderedRead, unorderedWrite};
+ghost use Rattle.race_check.specs.Kept.{ownOf, accessed, accessIn, withRead, withWrite, foundRead, foundWrite, OwnWhole};
+ghost use Rattle.race_check.specs.Rows.{vectorOf, accessesOf};
+ghost use Rattle.race_check.specs.States.{Writers};
 use crate::clocks::VectorClocks;
 use crate::progress::Progress;
 use basics::STATIONS;
@@ -32,8 +31,11 @@ pub fn read(
     requires reads_known { ⌜ word < length (now reads) ⌝ }
     requires writers { ⌜ Writers (now writes) ⌝ }
     requires room { ⌜ progress .places < 4294967295 ⌝ }
-    requires count { ⌜ clocksOf (now clocks) .station station station < 4294967295 ⌝ }
-    ensures { λ r. ⌜ tablesOf r (now (clocks .exit)) (now (writes .entry)) (now (reads .exit)) ≡ stepped (tablesOf progress (now (clocks .entry)) (now (writes .entry)) (now (reads .entry))) (Read station word value) ⌝ }
+    requires count { ⌜ getD (ownOf (now clocks) station) station 0 < 4294967295 ⌝ }
+    ensures found { λ r. ⌜ r ≡ foundRead progress (now (clocks .entry)) (now (writes .entry)) station word value ⌝ }
+    ensures clocks { λ _. ⌜ now (clocks .exit) ≡ accessed (now (clocks .entry)) station ⌝ }
+    ensures whole { λ _. ⌜ OwnWhole (now (clocks .entry)) station ⌝ }
+    ensures reads { λ _. ⌜ now (reads .exit) ≡ withRead (now (reads .entry)) word station (accessIn progress (now (clocks .entry)) station value) ⌝ }
 {
     let place = progress.places + 1;
     let event = Event::Read {
@@ -77,8 +79,11 @@ pub fn write(
     requires reads_known { ⌜ word < length (now reads) ⌝ }
     requires writers { ⌜ Writers (now writes) ⌝ }
     requires room { ⌜ progress .places < 4294967295 ⌝ }
-    requires count { ⌜ clocksOf (now clocks) .station station station < 4294967295 ⌝ }
-    ensures { λ r. ⌜ tablesOf r (now (clocks .exit)) (now (writes .exit)) (now (reads .entry)) ≡ stepped (tablesOf progress (now (clocks .entry)) (now (writes .entry)) (now (reads .entry))) (Write station word value) ⌝ }
+    requires count { ⌜ getD (ownOf (now clocks) station) station 0 < 4294967295 ⌝ }
+    ensures found { λ r. ⌜ r ≡ foundWrite progress (now (clocks .entry)) (now (writes .entry)) (now (reads .entry)) station word value ⌝ }
+    ensures clocks { λ _. ⌜ now (clocks .exit) ≡ accessed (now (clocks .entry)) station ⌝ }
+    ensures whole { λ _. ⌜ OwnWhole (now (clocks .entry)) station ⌝ }
+    ensures writes { λ _. ⌜ now (writes .exit) ≡ withWrite (now (writes .entry)) word station (accessIn progress (now (clocks .entry)) station value) ⌝ }
 {
     let place = progress.places + 1;
     let event = Event::Write {
@@ -164,7 +169,7 @@ fn unordered_read(before: [u32; 16], word: u32, reads: &[Access; 16]) -> Option<
 fn keep_read(reads: &mut [[Access; 16]], word: u32, station: u8, access: Access)
     requires station_known { ⌜ station < 16 ⌝ }
     requires word_known { ⌜ word < length (now reads) ⌝ }
-    ensures { λ _. ⌜ readsOf (now (reads .exit)) ≡ put word (put station access (readsOf (now (reads .entry)) word)) (readsOf (now (reads .entry))) ⌝ }
+    ensures { λ _. ⌜ now (reads .exit) ≡ withRead (now (reads .entry)) word station access ⌝ }
 {
     reads[word as usize][station as usize] = access;
 }
@@ -172,7 +177,7 @@ fn keep_read(reads: &mut [[Access; 16]], word: u32, station: u8, access: Access)
 // The last write of a word.
 fn keep_write(writes: &mut [LastWrite], word: u32, last: LastWrite)
     requires { ⌜ word < length (now writes) ⌝ }
-    ensures { λ _. ⌜ writesOf (now (writes .exit)) ≡ put word last (writesOf (now (writes .entry))) ⌝ }
+    ensures { λ _. ⌜ now (writes .exit) ≡ set (now (writes .entry)) word last ⌝ }
 {
     writes[word as usize] = last;
 }

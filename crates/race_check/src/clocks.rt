@@ -1,12 +1,8 @@
 // The vectors of all stations and locks. A vector has for each station a count of its events.
 ghost use mathlib.Core.Path.{_≡_};
 ghost use Prim.Native.Nat.{suc, _<_};
-ghost use lib.ListN.{length};
-ghost use Rattle.basics.specs.Sizes.{put};
-ghost use Rattle.trace.specs.declared.Event.the-variants.{Read, Acquire, Release};
-ghost use Rattle.vectors.specs.Check.{before, clocksWith, empty, greatest, upTo};
-ghost use Rattle.race_check.specs.Rows.{vectorOf, vectorsOf};
-ghost use Rattle.race_check.specs.States.{clocksOf};
+ghost use lib.ListN.{length, getD, set};
+ghost use Rattle.race_check.specs.Kept.{noClocks, countedIn, greatestIn, ownOf, lockOf, accessed, acquired, released, OwnWhole, LockWhole};
 
 // Of each station how many events of each station come before its next; of each lock the greatest of the vectors of all its releases so far.
 #[derive(Clone, Copy)]
@@ -18,7 +14,7 @@ pub struct VectorClocks {
 impl VectorClocks {
     // Nothing has happened yet.
     pub fn new() -> VectorClocks
-        ensures { λ r. ⌜ clocksOf r ≡ empty .clocks ⌝ }
+        ensures { λ r. ⌜ r ≡ noClocks ⌝ }
     {
         VectorClocks {
             stations: [[0; 16]; 16],
@@ -29,7 +25,7 @@ impl VectorClocks {
     // The vector of a station: how many events of each come before its next.
     pub fn of(&self, station: u8) -> [u32; 16]
         requires known { ⌜ station < 16 ⌝ }
-        ensures { λ r. ⌜ vectorOf r ≡ clocksOf (now (self .entry)) .station station ⌝ }
+        ensures { λ r. ⌜ r ≡ ownOf (now (self .entry)) station ⌝ }
     {
         self.stations[station as usize]
     }
@@ -37,7 +33,7 @@ impl VectorClocks {
     // The greatest of the vectors of all releases of a lock.
     fn of_lock(&self, lock: u8) -> [u32; 16]
         requires known { ⌜ lock < 64 ⌝ }
-        ensures { λ r. ⌜ vectorOf r ≡ clocksOf (now (self .entry)) .lock lock ⌝ }
+        ensures { λ r. ⌜ r ≡ lockOf (now (self .entry)) lock ⌝ }
     {
         self.locks[lock as usize]
     }
@@ -45,20 +41,23 @@ impl VectorClocks {
     // An event that neither acquires nor releases; gives its station's count.
     pub fn access(&mut self, station: u8) -> u32
         requires known { ⌜ station < 16 ⌝ }
-        requires room { ⌜ clocksOf (now self) .station station station < 4294967295 ⌝ }
-        ensures clocks { λ _. ⌜ clocksOf (now (self .exit)) ≡ clocksWith (clocksOf (now (self .entry))) (Read station 0 0) ⌝ }
-        ensures count { λ r. ⌜ r ≡ upTo (clocksOf (now (self .entry))) (Read station 0 0) station ⌝ }
+        requires room { ⌜ getD (ownOf (now self) station) station 0 < 4294967295 ⌝ }
+        ensures clocks { λ _. ⌜ now (self .exit) ≡ accessed (now (self .entry)) station ⌝ }
+        ensures count { λ r. ⌜ r ≡ suc (getD (ownOf (now (self .entry)) station) station 0) ⌝ }
+        ensures whole { λ _. ⌜ OwnWhole (now (self .entry)) station ⌝ }
     {
         let own = counted(self.of(station), station);
-        store(&mut self.stations, station, own);
+        let st = station;
+        store(&mut self.stations, st, own);
         own[station as usize]
     }
 
     pub fn acquire(&mut self, station: u8, lock: u8)
         requires known { ⌜ station < 16 ⌝ }
         requires lock { ⌜ lock < 64 ⌝ }
-        requires room { ⌜ before (clocksOf (now self)) (Acquire station lock) station < 4294967295 ⌝ }
-        ensures { λ _. ⌜ clocksOf (now (self .exit)) ≡ clocksWith (clocksOf (now (self .entry))) (Acquire station lock) ⌝ }
+        requires room { ⌜ getD (greatestIn (ownOf (now self) station) (lockOf (now self) lock)) station 0 < 4294967295 ⌝ }
+        ensures clocks { λ _. ⌜ now (self .exit) ≡ acquired (now (self .entry)) station lock ⌝ }
+        ensures whole { λ _. ⌜ OwnWhole (now (self .entry)) station × LockWhole (now (self .entry)) lock ⌝ }
     {
         let joined = greatest(self.of(station), self.of_lock(lock));
         store(&mut self.stations, station, counted(joined, station));
@@ -67,8 +66,9 @@ impl VectorClocks {
     pub fn release(&mut self, station: u8, lock: u8)
         requires known { ⌜ station < 16 ⌝ }
         requires lock { ⌜ lock < 64 ⌝ }
-        requires room { ⌜ clocksOf (now self) .station station station < 4294967295 ⌝ }
-        ensures { λ _. ⌜ clocksOf (now (self .exit)) ≡ clocksWith (clocksOf (now (self .entry))) (Release station lock) ⌝ }
+        requires room { ⌜ getD (ownOf (now self) station) station 0 < 4294967295 ⌝ }
+        ensures clocks { λ _. ⌜ now (self .exit) ≡ released (now (self .entry)) station lock ⌝ }
+        ensures whole { λ _. ⌜ OwnWhole (now (self .entry)) station × LockWhole (now (self .entry)) lock ⌝ }
     {
         let after = counted(self.of(station), station);
         let greatest = greatest(self.of_lock(lock), after);
@@ -79,7 +79,7 @@ impl VectorClocks {
 
 // Station by station the greater count.
 fn greatest(a: [u32; 16], b: [u32; 16]) -> [u32; 16]
-    ensures { λ r. ⌜ vectorOf r ≡ greatest (vectorOf a) (vectorOf b) ⌝ }
+    ensures { λ r. ⌜ r ≡ greatestIn a b ⌝ }
 {
     let mut most = a;
     for j in 0..16 {
@@ -93,8 +93,8 @@ fn greatest(a: [u32; 16], b: [u32; 16]) -> [u32; 16]
 // One event more of a station.
 fn counted(v: [u32; 16], station: u8) -> [u32; 16]
     requires known { ⌜ station < 16 ⌝ }
-    requires room { ⌜ vectorOf v station < 4294967295 ⌝ }
-    ensures { λ r. ⌜ vectorOf r ≡ put station (suc (vectorOf v station)) (vectorOf v) ⌝ }
+    requires room { ⌜ getD v station 0 < 4294967295 ⌝ }
+    ensures { λ r. ⌜ r ≡ countedIn v station ⌝ }
 {
     let mut after = v;
     after[station as usize] += 1;
@@ -104,7 +104,7 @@ fn counted(v: [u32; 16], station: u8) -> [u32; 16]
 // One vector of a table replaced.
 fn store(vectors: &mut [[u32; 16]], at: u8, v: [u32; 16])
     requires { ⌜ at < length (now vectors) ⌝ }
-    ensures { λ _. ⌜ vectorsOf (now (vectors .exit)) ≡ put at (vectorOf v) (vectorsOf (now (vectors .entry))) ⌝ }
+    ensures { λ _. ⌜ now (vectors .exit) ≡ set (now (vectors .entry)) at v ⌝ }
 {
     vectors[at as usize] = v;
 }

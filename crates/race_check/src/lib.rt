@@ -3,7 +3,6 @@ mod accesses;
 mod clocks;
 mod progress;
 mod state;
-mod step;
 mod whole;
 
 pub use state::Check;

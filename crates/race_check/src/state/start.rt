@@ -4,9 +4,10 @@ ghost use mathlib.Core.Path.{_≡_};
 ghost use lib.ListN.{replicate};
 ghost use Rattle.std.specs.Of.Vec.{vec-items};
 ghost use Rattle.std.specs.Vec.{made};
-ghost use Rattle.vectors.specs.Check.{empty, never, unwritten};
+ghost use Rattle.vectors.specs.Check.{never, unwritten};
 ghost use Rattle.race_check.specs.Checks.{checkOf};
-ghost use Rattle.race_check.specs.States.{clocksOf, Led};
+ghost use Rattle.race_check.specs.Kept.{noClocks};
+ghost use Rattle.race_check.specs.States.{Led};
 use crate::clocks::VectorClocks;
 use crate::progress::Progress;
 use crate::state::Check;
@@ -55,7 +56,7 @@ fn unread(heap: Global) -> Result<Vec<[Access; 16]>, AllocError>
 }
 
 fn blank(clocks: VectorClocks, writes: Vec<LastWrite>, reads: Vec<[Access; 16]>) -> Check
-    requires clocks { ⌜ clocksOf clocks ≡ empty .clocks ⌝ }
+    requires clocks { ⌜ clocks ≡ noClocks ⌝ }
     requires writes { ⌜ vec-items writes ≡ replicate 65536 unwritten ⌝ }
     requires reads { ⌜ vec-items reads ≡ replicate 65536 (replicate 16 never) ⌝ }
     ensures { λ c. ⌜ Led (checkOf c) [] ⌝ }

@@ -1,6 +1,5 @@
 use mathlib.Core.Path.{_∙_}
 use Rattle.race_check.specs.Checks.{checkOf}
-use Rattle.race_check.specs.Rows.{writesOf}
 use Rattle.race_check.proofs.Feeding.{writers, room-for-one, led-on, reached-on, refilled-step}
 use Rattle.race_check.proofs.state.Check.feed.Needs as need
 
