@@ -47,8 +47,7 @@ impl VectorClocks {
         ensures whole { λ _. ⌜ OwnWhole (now (self .entry)) station ⌝ }
     {
         let own = counted(self.of(station), station);
-        let st = station;
-        store(&mut self.stations, st, own);
+        store(&mut self.stations, station, own);
         own[station as usize]
     }
 

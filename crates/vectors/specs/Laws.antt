@@ -21,7 +21,7 @@ abbrev pub count : ℕ → List Event → ℕ
 count s [] = 0
 count s (e ∷ es) = cond (eqb (by e) s) (suc (count s es)) (count s es)
 
--- the vector has room for the event at place m: fewer events of its station came before it than the vector counts
+-- the vector counts the event at place m: it counts more events of that station than came before it
 abbrev pub Counts : Vector → List Event → ℕ → Event → Type 0
 Counts v es m e = count (by e) (earlier m es) < v (by e)
 
@@ -33,7 +33,7 @@ pub record Tells (v : Vector) (es : List Event) (next : Event) : Type 0 where
 abbrev pub VectorsTell : Type 0
 VectorsTell = (es : List Event) (next : Event) → Tells (before (after es .clocks) next) es next
 
--- THE RACE CHECK: none said of race-free traces alone; a race said is the first, and these are its events.
+-- THE RACE CHECK. No race is said: the trace is race-free. A race is said: it is the first, and these are its events.
 pub record IsFirst (es : List Event) (r : Race) : Type 0 where
   pub places : FirstRace es (r .earlier .place) (r .later .place)
   pub earlier : eventAt es (r .earlier .place) ≡ Some (r .earlier .event)
@@ -43,7 +43,7 @@ abbrev pub RaceSaid : List Event → Option Race → Type 0
 RaceSaid es None = RaceFree es
 RaceSaid es (Some r) = IsFirst es r
 
--- THE MEMORY CHECK: likewise
+-- THE MEMORY CHECK, likewise.
 abbrev pub StaleSaid : List Event → Option ℕ → Type 0
 StaleSaid es None = OneMemory es
 StaleSaid es (Some n) = FirstStale es n

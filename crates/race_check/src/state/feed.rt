@@ -53,7 +53,7 @@ impl Check {
     }
 }
 
-// One event more: what was found, and all tables, as the check says. The event is known, and no counter is full.
+// One event more: what was found, and all tables, which are lent, as the check says. The event is known, and no counter is full.
 fn take_in(
     progress: Progress,
     clocks: &mut VectorClocks,
