@@ -1,5 +1,5 @@
 -- What the code does with an event is one step of the check. Assumes nothing.
-use mathlib.Core.Path.{_≡_, refl, sym, ap, _∙_}
+use mathlib.Core.Path.{_≡_, refl, ap}
 use mathlib.Core.Bool.{true}
 use mathlib.Core.List.{List, []}
 use Prim.Native.Nat.{ℕ, suc, _<_}
@@ -15,10 +15,10 @@ use Rattle.trace.specs.Events.{isKnown}
 use Rattle.trace.specs.declared.Placed.{Placed}
 use Rattle.vectors.specs.declared.Access.{Access}
 use Rattle.vectors.specs.declared.LastWrite.{LastWrite}
-use Rattle.vectors.specs.Check.{Tables, later, either, unwritten, unorderedWrite, upTo, accessOf, stepped}
+use Rattle.vectors.specs.Check.{later, either, unwritten, unorderedWrite, upTo, accessOf, stepped}
 use Rattle.race_check.specs.declared.clocks.VectorClocks.{VectorClocks}
 use Rattle.race_check.specs.declared.progress.Progress.{Progress}
-use Rattle.race_check.specs.Kept.{accessed, acquired, released, accessIn, withRead, withWrite, foundRead, foundWrite, OwnWhole, LockWhole}
+use Rattle.race_check.specs.Kept.{ownOf, accessed, acquired, released, accessIn, withRead, withWrite, foundRead, foundWrite, OwnWhole, LockWhole}
 use Rattle.race_check.specs.Rows.{vectorsOf, writesOf}
 use Rattle.race_check.specs.States.{clocksOf, tablesOf}
 use Rattle.race_check.proofs.Advancing.{accessed-is, acquired-is, released-is, read-left}
@@ -32,45 +32,45 @@ either-none None = refl
 either-none (Some y) = refl
 
 -- what a known event names is there; a write as a read, a release as an acquire
-pub word-known : (s w v : ℕ) → isKnown (Read s w v) ≡ true → (s < 16) × (w < 65536)
+word-known : (s w v : ℕ) → isKnown (Read s w v) ≡ true → (s < 16) × (w < 65536)
 word-known s w v k = (grind (arith, tells, k), grind (arith, tells, k))
 
 pub lock-known : (s l : ℕ) → isKnown (Acquire s l) ≡ true → (s < 16) × (l < 64)
 lock-known s l k = (grind (arith, tells, k), grind (arith, tells, k))
 
--- a step taken for the event that it is
-pub as-event : (t u : Tables) (e f : Event) → e ≡ f → u ≡ stepped t f → u ≡ stepped t e
-as-event t u e f same step = step ∙ ap (stepped t) (sym same)
+count-is : (c : VectorClocks) (s w v : ℕ) → suc (getD (ownOf c s) s 0) ≡ upTo (clocksOf c) (Read s w v) s
+count-is c s w v = grind (arith, tells)
 
-pub same-tables :
-    {p q : Progress} {c d : VectorClocks} {ws us : List LastWrite} {rs xs : List (List Access)} → p ≡ q → c ≡ d → ws ≡ us → rs ≡ xs → tablesOf p c ws rs ≡ tablesOf q d us xs
-same-tables e f g h = rw (e, f, g, h) refl
+access-is : (p : Progress) (c : VectorClocks) (ws : List LastWrite) (rs : List (List Access)) (s w v : ℕ) → accessIn p c s v ≡ accessOf (tablesOf p c ws rs) (Read s w v)
+access-is p c ws rs s w v = ap (λ n. record { count = n; place = suc (p .places); value = v }) (count-is c s w v)
 
-module _ (p : Progress) (c : VectorClocks) (ws : List LastWrite) (rs : List (List Access)) (s : ℕ) (known : s < 16) (own : OwnWhole c s) where
-  module _ (w v : ℕ) where
-    count-is : suc (vectorsOf (c .stations) s s) ≡ upTo (clocksOf c) (Read s w v) s
-    count-is = grind (arith, tells)
-
-    access-is : accessIn p c s v ≡ accessOf (tablesOf p c ws rs) (Read s w v)
-    access-is = ap (λ n. record { count = n; place = suc (p .places); value = v }) count-is
-
+-- q, d, us, xs: what is there after the event
+module _ (p : Progress) (c : VectorClocks) (ws : List LastWrite) (rs : List (List Access)) (e : Event) (known : isKnown e ≡ true) {q : Progress} {d : VectorClocks} where
+  module _ (s w v : ℕ) (own : OwnWhole c s) where
     pub read-taken :
-        w < length rs → length (getD rs w []) ≡ 16 →
-        tablesOf (foundRead p c ws s w v) (accessed c s) ws (withRead rs w s (accessIn p c s v)) ≡ stepped (tablesOf p c ws rs) (Read s w v)
-    read-taken h k =
-        rw (accessed-is c s known own, read-left rs w s (accessIn p c s v) h (omega (arith, k)), access-is, later-none (unorderedWrite (vectorsOf (c .stations) s) w (writesOf ws w))) refl
+        e ≡ Read s w v → length rs ≡ 65536 → ((i : ℕ) → i < length rs → length (getD rs i []) ≡ 16) → {xs : List (List Access)} →
+        q ≡ foundRead p c ws s w v → d ≡ accessed c s → xs ≡ withRead rs w s (accessIn p c s v) → tablesOf q d ws xs ≡ stepped (tablesOf p c ws rs) e
+    read-taken is all rows f g h =
+        let k = word-known s w v (rw is at known) in
+        let there : w < length rs = rw all (k .1) in
+        rw (is, f, g, h, accessed-is c s (k .0) own, read-left rs w s (accessIn p c s v) there (omega (arith, rows w there, k .0)), access-is p c ws rs s w v, later-none (unorderedWrite (vectorsOf (c .stations) s) w (writesOf ws w)))
+        refl
 
     pub write-taken :
-        w < length ws → tablesOf (foundWrite p c ws rs s w v) (accessed c s) (withWrite ws w s (accessIn p c s v)) rs ≡ stepped (tablesOf p c ws rs) (Write s w v)
-    write-taken h =
-        rw (accessed-is c s known own, put-set unwritten (record { station = s; access = accessIn p c s v }) ws w h, access-is, either-none (p .verdict .stale)) refl
+        e ≡ Write s w v → length ws ≡ 65536 → {us : List LastWrite} → q ≡ foundWrite p c ws rs s w v → d ≡ accessed c s → us ≡ withWrite ws w s (accessIn p c s v) →
+        tablesOf q d us rs ≡ stepped (tablesOf p c ws rs) e
+    write-taken is all f g h =
+        let k = word-known s w v (rw is at known) in
+        let there : w < length ws = rw all (k .1) in
+        rw (is, f, g, h, accessed-is c s (k .0) own, put-set unwritten (record { station = s; access = accessIn p c s v }) ws w there, access-is p c ws rs s w v, either-none (p .verdict .stale)) refl
 
-  module _ (l : ℕ) (there : l < 64) (lock : LockWhole c l) where
-    abbrev pub onward : Progress
-    onward = record { places = suc (p .places); verdict = p .verdict }
+  module _ (s l : ℕ) (own : OwnWhole c s) (lock : LockWhole c l) (onward : q ≡ record { places = suc (p .places); verdict = p .verdict }) where
+    pub acquire-taken : e ≡ Acquire s l → d ≡ acquired c s l → tablesOf q d ws rs ≡ stepped (tablesOf p c ws rs) e
+    acquire-taken is f =
+        let k = lock-known s l (rw is at known) in
+        rw (is, onward, f, acquired-is c s (k .0) own l (k .1) lock, either-none (p .verdict .race), either-none (p .verdict .stale)) refl
 
-    pub acquire-taken : tablesOf onward (acquired c s l) ws rs ≡ stepped (tablesOf p c ws rs) (Acquire s l)
-    acquire-taken = rw (acquired-is c s known own l there lock, either-none (p .verdict .race), either-none (p .verdict .stale)) refl
-
-    pub release-taken : tablesOf onward (released c s l) ws rs ≡ stepped (tablesOf p c ws rs) (Release s l)
-    release-taken = rw (released-is c s known own l there lock, either-none (p .verdict .race), either-none (p .verdict .stale)) refl
+    pub release-taken : e ≡ Release s l → d ≡ released c s l → tablesOf q d ws rs ≡ stepped (tablesOf p c ws rs) e
+    release-taken is f =
+        let k = lock-known s l (rw is at known) in
+        rw (is, onward, f, released-is c s (k .0) own l (k .1) lock, either-none (p .verdict .race), either-none (p .verdict .stale)) refl
