@@ -6,7 +6,6 @@ use mathlib.Core.List.{List, [], _∷_}
 use Prim.Native.Nat.{ℕ, _<_, _≤_}
 use native.Mathlib.Bridge.{le-prop}
 use native.Mathlib.Omega.{arith}
-use lib.Dec.{T}
 use lib.ListN.{length}
 use Rattle.std.proofs.shelf.Ways.{tells, eqb-tells}
 use Rattle.std.specs.declared.option.Option.the-variants.{None}
@@ -15,6 +14,7 @@ use Rattle.trace.specs.declared.Event.the-variants.{Read, Write, Acquire, Relea
 use Rattle.trace.specs.Events.{by, acquires, isKnown}
 use Rattle.vectors.specs.Check.{Vector, Tables, joined, before, stepped, after}
 use Rattle.vectors.specs.Laws.{count, Known, Tells, Judged, verdictOf}
+use Rattle.vectors.proofs.Held.{station-known}
 use Rattle.vectors.proofs.Latest.{places-are}
 use Rattle.vectors.proofs.Told.{check-tells}
 use Rattle.vectors.proofs.Vectors.{vectors-tell, own-count}
@@ -32,12 +32,6 @@ use Rattle.race_check.specs.States.{tablesOf, Led, Reached}
 count-within : (s : ℕ) (es : List Event) → count s es ≤ length es
 count-within s [] = omega arith
 count-within s (e ∷ es) = let h = count-within s es in grind (arith, tells)
-
-station-known : (e : Event) → T (isKnown e) → by e < 16
-station-known (Read s w v) k = grind (arith, tells, k)
-station-known (Write s w v) k = grind (arith, tells, k)
-station-known (Acquire s l) k = grind (arith, tells, k)
-station-known (Release s l) k = grind (arith, tells, k)
 
 writer-next : (t : Tables) (e : Event) (w : ℕ) → by e < 16 → t .write w .station < 16 → stepped t e .write w .station < 16
 writer-next t (Read s u v) w k h = h

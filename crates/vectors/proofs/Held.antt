@@ -36,7 +36,7 @@ is-read s w v (Acquire a b) h p q = absurd (grind (arith, h))
 is-read s w v (Release a b) h p q = absurd (grind (arith, h))
 
 -- a station of a known trace is one of the 16
-station-known : (f : Event) → T (isKnown f) → by f < 16
+pub station-known : (f : Event) → T (isKnown f) → by f < 16
 station-known (Read s w v) k = grind (arith, tells, k)
 station-known (Write s w v) k = grind (arith, tells, k)
 station-known (Acquire s l) k = grind (arith, tells, k)
