@@ -1,4 +1,6 @@
 // How much there is of everything, and why things are refused.
+#![tactic(auto)]
+
 ghost use Rattle.std.specs.Prelude.{◌≡◌};
 ghost use Rattle.basics.specs.Refusals.{number_of};
 

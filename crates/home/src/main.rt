@@ -1,4 +1,6 @@
 // The home as a program: messages in hexadecimal come in, one to a line, and what the home sends goes out.
+#![tactic(auto)]
+
 use anyhow::anyhow;
 use home_lines::respond;
 use home_node::Home;

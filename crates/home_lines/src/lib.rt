@@ -1,4 +1,6 @@
 // The lines that the program `home` prints, for each line that it reads.
+#![tactic(auto)]
+
 ghost use Rattle.std.specs.Prelude.{◌≡◌, ◌++◌, IfErr, Some, OnOk};
 ghost use Rattle.home_node.specs.Answers.{sent_of};
 ghost use Rattle.home_node.specs.Homes.{home_of};

@@ -1,4 +1,6 @@
 // Examples of messages and of the home, as a user would meet them.
+#![tactic(auto)]
+
 #[cfg(test)]
 mod tests {
     use basics::Refusal;

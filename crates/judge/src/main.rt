@@ -1,4 +1,6 @@
 // The judge as a program: a trace comes in, and what is to be said of it goes out.
+#![tactic(auto)]
+
 use anyhow::anyhow;
 use basics::Refusal;
 use judging::Judge;

@@ -1,4 +1,6 @@
 // A trace, read piece by piece as text or as raw bytes, and judged event by event.
+#![tactic(auto)]
+
 ghost use Rattle.judging.specs.Laws.{PiecesJoin, TextIsRead, BytesAreRead};
 
 pub mod judge;

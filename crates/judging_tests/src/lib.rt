@@ -1,4 +1,6 @@
 // Examples of a trace that comes in pieces.
+#![tactic(auto)]
+
 #[cfg(test)]
 mod tests {
     use basics::Refusal;

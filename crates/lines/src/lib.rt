@@ -1,4 +1,6 @@
 // What every program prints: numbers behind words, values and refusals.
+#![tactic(auto)]
+
 ghost use Rattle.std.specs.Prelude.{◌≡◌, ◌++◌, IfErr, decimal, OnOk};
 ghost use Rattle.text.specs.declared.Fault.TheVariants.{Memory};
 ghost use Rattle.lines.specs.Lines.{line, numbered, turned_away, refusal_line};

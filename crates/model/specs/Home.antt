@@ -39,7 +39,7 @@ applies h s n p changes =
 -- what the locks answer, as the home's answer
 abbrev pub locked : HomeState → Reply LockTable → Reply HomeState
 locked h r =
-    record { refusal = r.refusal; value = r.value; sent = r.sent; events = r.events; after = record { words = h.words; applied = h.applied; locks = r.after } }
+    record { refusal = r.refusal; sent = r.sent; after = record { words = h.words; applied = h.applied; locks = r.after } }
 
 -- What the home does with each message. The messages that go to stations are malformed here.
 abbrev pub hears : HomeState → Message → Reply HomeState

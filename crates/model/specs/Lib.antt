@@ -1,5 +1,6 @@
 pub mod Bytes
 pub mod Replies
+pub mod Outcomes
 pub mod Locks
 pub mod Home
 pub mod Cache

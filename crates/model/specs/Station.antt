@@ -16,7 +16,7 @@ use Rattle.model.specs.declared.Head.{Head}
 use Rattle.model.specs.declared.Counters.{Counters}
 use Rattle.model.specs.Bytes.{parse}
 use Rattle.model.specs.Cache.{Cache, empty, is_in, wrote, installed, flushed_at, changes_at, is_clean}
-use Rattle.model.specs.Replies.{Reply, Row, done, happened, gave, refused, unless}
+use Rattle.model.specs.Outcomes.{Outcome, Row, done, happened, gave, refused, unless}
 
 -- head: its counters and what it waits for; cache: its pages; locks: what each lock is to it
 pub record StationState : Type 0 where
@@ -159,14 +159,14 @@ abbrev pub with : Head → Cache → (ℕ → Holding) → StationState
 with h c locks = record { head = h; cache = c; locks = locks }
 
 -- A lock is given back once; asked again before the answer came, only the message is sent again.
-abbrev pub frees : StationState → ℕ → Holding → Reply StationState
+abbrev pub frees : StationState → ℕ → Holding → Outcome StationState
 frees s l NotHeld = done [] s
 frees s l (Held n) =
     happened (Release s.head.station l) (LockReleased s.head.station l n ∷ []) (with (counted s.head) s.cache (put l (Unanswered n) s.locks))
 frees s l (Unanswered n) = done (LockReleased s.head.station l n ∷ []) s
 
 -- WHAT EACH CALL DOES, if it is not refused.
-abbrev pub does : StationState → Call → Reply StationState
+abbrev pub does : StationState → Call → Outcome StationState
 does s (ReadWord w) =
     gave (s.cache.copy w) (Read s.head.station w (s.cache.copy w)) (with (counted s.head) s.cache s.locks)
 does s (WriteWord w v) =
@@ -179,7 +179,7 @@ does s (Take l) =
     done (LockRequest s.head.station l (s.head.acquires + 1) ∷ []) (with (acquiring l s.head) s.cache s.locks)
 does s (Free l) = frees s l (s.locks l)
 
-abbrev pub calls : StationState → Call → Reply StationState
+abbrev pub calls : StationState → Call → Outcome StationState
 calls s c = unless (call_refusals s c) s (does s c)
 
 -- THE REFUSALS of each message, in rising order. Those that go to the home are malformed here.
@@ -201,7 +201,7 @@ abbrev pub kept_on_acquire : Cache → Cache
 kept_on_acquire c = empty
 
 -- WHAT EACH MESSAGE DOES, if it is not refused.
-abbrev pub takes_in : StationState → Message → Reply StationState
+abbrev pub takes_in : StationState → Message → Outcome StationState
 takes_in s (PageRequest t p n) = done [] s
 takes_in s (PageReply t p n ws) = done [] (with (served s.head) (installed p ws s.cache) s.locks)
 takes_in s (Diff t n p cs) = done [] s
@@ -212,15 +212,15 @@ takes_in s (LockGranted t l n) =
 takes_in s (LockReleased t l n) = done [] s
 takes_in s (ReleaseTaken t l n) = done [] (with s.head s.cache (put l NotHeld s.locks))
 
-abbrev pub station_hears : StationState → Message → Reply StationState
+abbrev pub station_hears : StationState → Message → Outcome StationState
 station_hears s m = unless (message_refusals s m) s (takes_in s m)
 
-abbrev pub station_reads : StationState → Result Message Refusal → Reply StationState
+abbrev pub station_reads : StationState → Result Message Refusal → Outcome StationState
 station_reads s (Ok m) = station_hears s m
 station_reads s (Err why) = refused why [] s
 
 -- Any bytes may come in.
-abbrev pub station_receives : StationState → List ℕ → Reply StationState
+abbrev pub station_receives : StationState → List ℕ → Outcome StationState
 station_receives s bytes = station_reads s (parse bytes)
 
 -- What comes to a station: a call of its program, or bytes.
@@ -228,7 +228,7 @@ pub data Input : Type 0 where
   Calls : Call → Input
   Comes : List ℕ → Input
 
-abbrev pub meets : StationState → Input → Reply StationState
+abbrev pub meets : StationState → Input → Outcome StationState
 meets s (Calls c) = calls s c
 meets s (Comes bytes) = station_receives s bytes
 

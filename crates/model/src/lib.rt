@@ -1,5 +1,6 @@
 // The words that the rules, the code and the proofs share: messages, who holds a lock and who waits.
 // The rules themselves are in specs/.
+#![tactic(auto)]
 
 // A message between a station and the home. Each names the station, whichever way it goes.
 #[derive(Clone, Copy)]

@@ -1,4 +1,6 @@
 // Pages of lent words: a page's words copied out or written, a diff put in, and the diff of a copy and its twin.
+#![tactic(auto)]
+
 ghost use Rattle.std.specs.Prelude.{◌≡◌, ℕ, ◌+◌, ◌*◌, ◌<◌, ◌≤◌, ◌&&◌, length, if◌then◌else◌, Some, None, Ok, Err, slice_index, slice_index_or};
 ghost use Rattle.std.specs.Option.{unwrap_or};
 ghost use Rattle.basics.specs.declared.Refusal.TheVariants.{Malformed};

@@ -9,7 +9,7 @@ use Rattle.model.specs.declared.Message.{Message}
 use Rattle.model.specs.declared.Message.TheVariants.{PageRequest, PageReply, Diff, DiffApplied, LockRequest, LockGranted, LockReleased, ReleaseTaken}
 use Rattle.model.specs.declared.Call.{Call}
 use Rattle.model.specs.declared.Call.TheVariants.{ReadWord, WriteWord, Ask, Tell, Take, Free}
-use Rattle.model.specs.Replies.{Reply, Row, refused, unless}
+use Rattle.model.specs.Outcomes.{Outcome, Row, refused, unless}
 use Rattle.model.specs.Station.{StationState, call_refusals, message_refusals, does, takes_in}
 use Rattle.promise.specs.Station.{Lowest, AlwaysLowest}
 use Rattle.promise.proofs.StationSteps.{does_done, takes_done}
@@ -49,7 +49,7 @@ lowest_behind x rows (Some why) off k = ((k.0.0, Memᴰ.tail k.0.1, k.0.2, k.0.3
     least row (Memᴰ.head h) applies = absurd (both_ways _ off (rw h at applies))
     least row (Memᴰ.tail h) applies = k.1 row h applies
 
-module _ {S : Type 0} (s : S) (r : Reply S) (none : r.refusal ≡ None) where
+module _ {S : Type 0} (s : S) (r : Outcome S) (none : r.refusal ≡ None) where
   -- the first row that applies is the lowest that does
   lowest_unless : (least : ℕ) (rows : List Row) → in_order least rows ≡ true → Lowest rows (unless rows s r).refusal
   lowest_unless least [] e = rw none (λ row h. absurd (Memᴰ.not-nil h))

@@ -15,7 +15,7 @@ use Rattle.model.specs.declared.Holding.TheVariants.{NotHeld, Held, Unanswered}
 use Rattle.model.specs.declared.Counters.{Counters}
 use Rattle.model.specs.Bytes.{parse}
 use Rattle.model.specs.Cache.{is_in}
-use Rattle.model.specs.Replies.{Reply}
+use Rattle.model.specs.Outcomes.{Outcome}
 use Rattle.model.specs.Station.{StationState, Input, Calls, Comes, begun, is_waiting, is_page_awaited, is_free_to_take, call_refusals, message_refusals, frees, does, takes_in, station_reads, meets, station_after}
 use Rattle.promise.specs.Station.{sent_by, ready_for, ready, once, StationBounded, AllStationsKept}
 use Rattle.promise.proofs.Rows.{NoneApply, unless_either}
@@ -53,7 +53,7 @@ room_for : (p n : ℕ) (x : StationState) → x.head.awaits ≡ Page p n → T (
 room_for p n x e h = let k = rw e at h in (grind (arith, nat_tests), grind (arith, nat_tests))
 
 -- what holds again once a reply was given
-abbrev Keeps : ℕ → Counters → List Message → Reply StationState → Type 0
+abbrev Keeps : ℕ → Counters → List Message → Outcome StationState → Type 0
 Keeps s n sent r = Sound s n (sent ++ r.sent) r.after
 
 module _ {s : ℕ} {n : Counters} {sent : List Message} {now : StationState} (k : Sound s n sent now) where

@@ -10,7 +10,7 @@ use Rattle.model.specs.declared.Awaited.TheVariants.{Lock}
 use Rattle.model.specs.declared.Holding.{Holding}
 use Rattle.model.specs.declared.Holding.TheVariants.{NotHeld, Held, Unanswered}
 use Rattle.model.specs.Bytes.{parse}
-use Rattle.model.specs.Replies.{refused}
+use Rattle.model.specs.Outcomes.{refused}
 use Rattle.model.specs.Station.{StationState, Calls, Comes, is_waiting, call_refusals, message_refusals, frees, does, calls, takes_in, station_reads}
 use Rattle.promise.specs.Station.{StationRefusedKeeps, WaitingHolds}
 use Rattle.promise.proofs.Rows.{NoneApply, unless_keeps, none_apply}

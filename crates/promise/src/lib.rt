@@ -1,4 +1,6 @@
 // The theorems over the rules: each function's contract is one of them.
+#![tactic(auto)]
+
 ghost use Rattle.promise.specs.Codec.{ComesBack, OneText, CutRefused, LongerRefused};
 ghost use Rattle.promise.specs.Home.{RefusedKeeps, AllKept};
 ghost use Rattle.promise.specs.Station.{StationRefusedKeeps, AlwaysLowest, WaitingHolds, AllStationsKept, InstalledByTheLast};

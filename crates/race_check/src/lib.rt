@@ -1,4 +1,6 @@
 // The check of a trace, event by event: is it race-free, and was there one memory?
+#![tactic(auto)]
+
 mod accesses;
 mod clocks;
 mod progress;

@@ -1,4 +1,6 @@
 // Examples of traces and of what the check says of them. Word 5 is shared; locks 1 and 2 are there to guard it.
+#![tactic(auto)]
+
 #[cfg(test)]
 mod tests {
     use basics::Refusal;

@@ -1,4 +1,6 @@
 // The text that programs read and write: hexadecimal, decimal numbers, words and lines.
+#![tactic(auto)]
+
 ghost use Rattle.std.specs.Prelude.{◌≡◌};
 ghost use Rattle.text.specs.declared.Fault.TheVariants.{Memory};
 

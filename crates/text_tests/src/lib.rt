@@ -1,4 +1,5 @@
 // Examples of text that is read and written.
+#![tactic(auto)]
 
 #[cfg(test)]
 mod tests {

@@ -1,5 +1,7 @@
 // What stations did: events, their ten bytes, and what is said of a trace of them.
 // Happens-before, races and one memory are defined in specs/.
+#![tactic(auto)]
+
 ghost use Rattle.std.specs.Prelude.{◌≡◌};
 ghost use Rattle.trace.specs.Events.{is_known};
 

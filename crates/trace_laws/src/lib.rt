@@ -1,4 +1,6 @@
 // The theorems on traces alone: each function's contract is one of them.
+#![tactic(auto)]
+
 ghost use Rattle.trace_laws.specs.Codec.{EventComesBack, EventOneText, TraceComesBack, TraceOneText};
 ghost use Rattle.trace_laws.specs.Beginnings.{Beginnings};
 

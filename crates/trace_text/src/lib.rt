@@ -1,4 +1,6 @@
 // A trace as text or bytes, read piece by piece: characters to bytes, bytes to events.
+#![tactic(auto)]
+
 ghost use Rattle.trace_text.specs.Text.{HexIsRead};
 
 pub mod chars;

@@ -1,4 +1,6 @@
 // What the vector check keeps of each word. How it goes on from event to event, and the theorems on it, are in specs/.
+#![tactic(auto)]
+
 ghost use Rattle.vectors.specs.Laws.{VectorsTell, CheckTells};
 
 // The last time that a station read a word, or that it was written.

@@ -1,4 +1,6 @@
 // The lines that `judge` prints of a verdict.
+#![tactic(auto)]
+
 ghost use Rattle.std.specs.Prelude.{◌≡◌, ◌++◌, IfErr, codes, OnOk};
 ghost use Rattle.lines.specs.Lines.{numbered};
 ghost use Rattle.text.specs.declared.Fault.TheVariants.{Memory};

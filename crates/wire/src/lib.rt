@@ -1,4 +1,6 @@
 // Messages as bytes: `encode` gives a message's bytes, `decode` reads any bytes as a message or refuses them.
+#![tactic(auto)]
+
 mod fields;
 mod read;
 mod write;
