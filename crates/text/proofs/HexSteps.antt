@@ -1,7 +1,7 @@
 -- Digits that are written and read back, and what one turn of a loop over digits keeps.
 use Rattle.std.proofs.Common.{◌≡◌, ℕ, ◌-◌, ◌/◌, ◌%◌, ◌<◌, ◌≤◌, true, false, ◌&&◌, List, [], ◌∷◌, ◌++◌, length, get_or, take, drop, is_some, Some, None, Option, sym, refl, ap, ◌∙◌, append_assoc, arith}
 use Rattle.std.specs.Option.{option_map}
-use Rattle.std.specs.List.{AllByRecursion as All}
+use Rattle.std.specs.List.{AllByRecursion}
 use Rattle.std.proofs.lemmas.Nat.{div-add-mod', div_below, mod_below}
 use Rattle.std.proofs.lemmas.List.{take_rest}
 use mathlib.Core.Bool.{true≢false}
@@ -14,7 +14,7 @@ digit_back n small = grind (arith, nat_tests)
 pub byte_back : (b : ℕ) → b < 256 → byte_of (digit_of (b / 16)) (digit_of (b % 16)) ≡ Some b
 byte_back b small = rw (digit_back (b / 16) (div_below b 16 16 (omega arith) (omega arith)), digit_back (b % 16) (mod_below b 16 (omega arith))) (ap Some (div-add-mod' b 16))
 
-pub comes_back : (bs : List ℕ) → All (λ b. b < 256) bs → bytes_from (hex_of bs) ≡ Some bs
+pub comes_back : (bs : List ℕ) → AllByRecursion (λ b. b < 256) bs → bytes_from (hex_of bs) ≡ Some bs
 comes_back [] small = refl
 comes_back (b ∷ bs) small = rw (byte_back b small.0, comes_back bs small.1) refl
 
