@@ -8,7 +8,7 @@ returns-in-Err c =
     let h = home_of c.args.home.now in
     let m = meaning_of c.args.input.now in
     record {
-      printed = not_read c.in-Err.fault m h c.in-Err.ensures c.push-fault.result _ _ c.push-fault.ensures.printed;
-      after = not_followed c.in-Err.fault m h c.in-Err.ensures c.push-fault.result _ _ c.push-fault.ensures.printed;
-      memory = c.push-fault.ensures.memory;
+      printed = not_read c.in-Err.fault m h c.in-Err.ensures c.push_fault.result _ _ c.push_fault.ensures.printed;
+      after = not_followed c.in-Err.fault m h c.in-Err.ensures c.push_fault.result _ _ c.push_fault.ensures.printed;
+      memory = c.push_fault.ensures.memory;
     }
