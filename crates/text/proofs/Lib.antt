@@ -1,2 +1,3 @@
 pub mod HexSteps
+mod LineSteps
 mod NumberSteps

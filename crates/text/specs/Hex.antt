@@ -1,7 +1,7 @@
 -- Bytes as hexadecimal digits, two for each byte, the high one first.
 use Rattle.std.specs.Prelude.{◌≡◌, ℕ, ◌+◌, ◌-◌, ◌*◌, ◌/◌, ◌%◌, ◌<◌, cond, List, [], ◌∷◌, Some, None, Option, nat_lt}
 use Rattle.std.specs.Int.{is_in_range}
-use Rattle.std.specs.List.{AllByRecursion as All}
+use Rattle.std.specs.List.{AllByRecursion}
 
 -- '0' to '9', then 'a' to 'f'
 abbrev pub digit_of : ℕ → ℕ
@@ -40,4 +40,4 @@ bytes_from (high ∷ low ∷ cs) = before (byte_of high low) (bytes_from cs)
 
 -- what is written as digits is read back as it was
 abbrev pub HexComesBack : Type 0
-HexComesBack = (bs : List ℕ) → All (λ b. b < 256) bs → bytes_from (hex_of bs) ≡ Some bs
+HexComesBack = (bs : List ℕ) → AllByRecursion (λ b. b < 256) bs → bytes_from (hex_of bs) ≡ Some bs

@@ -58,7 +58,7 @@ fn is_passed_over(word: &[u8]) -> bool
 fn is_show(word: &[u8]) -> bool
     ensures { result ≡ bytes_eq word.now (codes "show") }
 {
-    word == b"show"
+    word == b"show".as_slice()
 }
 
 fn is_wordless(line: &[u8]) -> bool

@@ -1,6 +1,6 @@
 -- Bytes written as digits, read character by character, are those bytes. Assumes nothing.
 use Rattle.std.proofs.Common.{◌≡◌, ℕ, ◌/◌, ◌%◌, ◌<◌, false, eqb, List, [], ◌∷◌, Ok, Err, Result, refl, ap, ◌∙◌, arith}
-use Rattle.std.specs.List.{AllByRecursion as All}
+use Rattle.std.specs.List.{AllByRecursion}
 use Rattle.std.proofs.lemmas.Nat.{div_below}
 use Rattle.std.proofs.lemmas.Bool.Decides.{nat_tests}
 use Rattle.basics.specs.declared.Refusal.{Refusal}
@@ -36,7 +36,7 @@ high_small : (b : ℕ) → b < 256 → b / 16 < 16
 high_small b small = div_below b 16 16 (omega arith) (omega arith)
 
 -- behind a byte: digits lead as far as the bytes themselves do
-goes_on : (bs : List ℕ) → All (λ b. b < 256) bs → (r : Result Reading Refusal) → text_on (in_mode InLine r) (hex_of bs) ≡ in_mode InLine (read_on r bs)
+goes_on : (bs : List ℕ) → AllByRecursion (λ b. b < 256) bs → (r : Result Reading Refusal) → text_on (in_mode InLine r) (hex_of bs) ≡ in_mode InLine (read_on r bs)
 goes_on [] small (Ok r) = refl
 goes_on [] small (Err why) = refl
 goes_on (b ∷ bs) small (Err why) = refl
@@ -50,7 +50,7 @@ ends : (r : Result Reading Refusal) → text_whole (in_mode InLine r) ≡ whole 
 ends (Ok r) = refl
 ends (Err why) = refl
 
-pub hex_is_read : (bs : List ℕ) → All (λ b. b < 256) bs → text_trace (hex_of bs) ≡ read_trace bs
+pub hex_is_read : (bs : List ℕ) → AllByRecursion (λ b. b < 256) bs → text_trace (hex_of bs) ≡ read_trace bs
 hex_is_read [] small = refl
 hex_is_read (b ∷ bs) small =
     ap (λ t. text_whole (text_on t (digit_of (b % 16) ∷ hex_of bs))) (first_on_line none_read (b / 16) (high_small b small.0))

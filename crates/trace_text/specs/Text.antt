@@ -1,6 +1,6 @@
 -- A trace as text, character by character. Assumes nothing.
 use Rattle.std.specs.Prelude.{◌≡◌, ℕ, ◌<◌, cond, List, [], ◌∷◌, Some, None, Ok, Err, Option, Result}
-use Rattle.std.specs.List.{AllByRecursion as All}
+use Rattle.std.specs.List.{AllByRecursion}
 use Rattle.basics.specs.declared.Refusal.{Refusal}
 use Rattle.basics.specs.declared.Refusal.TheVariants.{Malformed}
 use Rattle.text.specs.Hex.{hex_of}
@@ -48,4 +48,4 @@ text_trace cs = text_whole (text_on (Ok text_start) cs)
 
 -- A trace's bytes, written as digits, are read as that trace.
 abbrev pub HexIsRead : Type 0
-HexIsRead = (bs : List ℕ) → All (λ b. b < 256) bs → text_trace (hex_of bs) ≡ read_trace bs
+HexIsRead = (bs : List ℕ) → AllByRecursion (λ b. b < 256) bs → text_trace (hex_of bs) ≡ read_trace bs

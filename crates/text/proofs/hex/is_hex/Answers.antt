@@ -4,4 +4,4 @@ use Rattle.text.proofs.HexSteps.{some_after_two}
 use Rattle.text.proofs.hex.is_hex.Goals as goal
 
 pub loop-rest-preserved : goal.loop-rest-preserved
-loop-rest-preserved c = some_after_two c.loop-rest.rest.now (omega (arith, ltb-false)) (ap is_some (sym c.byte.ensures) ∙ c.if-is-none.ensures) ∙ c.loop-rest.invariant
+loop-rest-preserved c = some_after_two c.loop-rest.rest.now (omega (arith, ltb-false)) (ap is_some (sym c.byte.ensures) ∙ c.if-is_none.ensures) ∙ c.loop-rest.invariant
