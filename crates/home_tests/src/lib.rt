@@ -44,7 +44,7 @@ mod tests {
             number: 258,
         };
         let bytes = encode(rt.alloc(), &grant)?;
-        assert!(rt; bytes.as_slice() == b"\x06\x03\x02\x00\x00\x01\x02");
+        assert!(rt; bytes.as_slice() == b"\x06\x03\x02\x00\x00\x01\x02".as_slice());
         Ok(())
     }
 

@@ -1,11 +1,11 @@
 -- How many words differ from their twins, over all pages: what a change on one page does to it.
-use Rattle.std.proofs.Common.{◌≡◌, ℕ, zero, suc, ◌+◌, ◌*◌, ◌/◌, ◌%◌, ◌<◌, ◌≤◌, Bool, true, false, cond, not, ◌&&◌, ◌||◌, T, eqb, List, [], ◌∷◌, ◌++◌, map, length, get_or, Some, None, Option, sym, refl, ap, ◌∙◌, inl, inr, arith}
+use Rattle.std.proofs.Common.{◌≡◌, ℕ, zero, suc, ◌+◌, ◌*◌, ◌/◌, ◌<◌, ◌≤◌, true, false, T, eqb, List, [], ◌∷◌, ◌++◌, map, length, Some, None, Option, sym, refl, ap, ◌∙◌, inl, inr, arith}
 use Rattle.std.specs.List.{range_with_len}
 use Rattle.std.proofs.lemmas.List.FromFn.{length-map-range_with_len}
 use Rattle.std.proofs.lemmas.Bool.Decides.{eqb_tells, nat_tests}
-use Rattle.basics.specs.Sizes.{page_of, place_of, put}
+use Rattle.basics.specs.Sizes.{page_of, put}
 use Rattle.model.specs.Bytes.{change_count}
-use Rattle.model.specs.Cache.{is_in, change, changes_at, differing, are_clean, on_page}
+use Rattle.model.specs.Cache.{is_in, change, changes_at, differing, are_clean}
 use Rattle.pages.proofs.Collecting.{count_few}
 use Rattle.promise.specs.Station.{once}
 use Rattle.page_cache.specs.Slots.{differs, dirty_words}

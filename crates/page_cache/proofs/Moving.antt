@@ -1,11 +1,11 @@
 -- A page flushed, and a page put into the next slot: tables and count are right again.
-use Rattle.std.proofs.Common.{◌≡◌, ℕ, ◌+◌, ◌-◌, ◌*◌, ◌/◌, ◌%◌, ◌<◌, ◌≤◌, true, false, cond, T, eqb, List, [], ◌∷◌, ◌++◌, length, get_or, set, Some, None, Option, sym, refl, ap, ◌∙◌, inl, inr, arith}
+use Rattle.std.proofs.Common.{◌≡◌, ℕ, ◌-◌, ◌/◌, ◌<◌, ◌≤◌, true, false, T, List, [], ◌∷◌, ◌++◌, length, get_or, set, Some, None, Option, sym, refl, ap, ◌∙◌, inl, inr, arith}
 use Rattle.std.proofs.lemmas.List.{get_or-set_same, get_or-set_other}
 use Rattle.std.proofs.lemmas.Bool.{eq-eqb, ne_eqb}
-use Rattle.std.proofs.lemmas.Bool.Decides.{eqb_tells, nat_tests}
-use Rattle.basics.specs.Sizes.{page_of, place_of}
+use Rattle.std.proofs.lemmas.Bool.Decides.{eqb_tells}
+use Rattle.basics.specs.Sizes.{page_of}
 use Rattle.model.specs.Bytes.{change_count}
-use Rattle.model.specs.Cache.{is_in, changes_at, differing, on_page, placed}
+use Rattle.model.specs.Cache.{is_in, differing, on_page, placed}
 use Rattle.pages.specs.Memory.{memory}
 use Rattle.promise.specs.Station.{once}
 use Rattle.page_cache.specs.Slots.{slot_of, seen, dirty_words}

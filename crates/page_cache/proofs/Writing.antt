@@ -1,10 +1,10 @@
 -- A word written into its slot: it was counted if it differed, and the count is right again.
-use Rattle.std.proofs.Common.{◌≡◌, ℕ, ◌+◌, ◌*◌, ◌/◌, ◌%◌, ◌<◌, ◌≤◌, true, T, eqb, List, [], ◌∷◌, length, get_or, set, Some, sym, refl, ap, ◌∙◌, arith}
+use Rattle.std.proofs.Common.{◌≡◌, ℕ, ◌+◌, ◌*◌, ◌/◌, ◌<◌, ◌≤◌, true, T, List, length, get_or, set, Some, sym, refl, ap, ◌∙◌, arith}
 use Rattle.std.proofs.lemmas.Bool.Decides.{nat_tests}
 use Rattle.basics.specs.Sizes.{page_of, place_of, put}
-use Rattle.model.specs.Cache.{is_in, differing, wrote}
+use Rattle.model.specs.Cache.{is_in}
 use Rattle.promise.specs.Station.{once}
-use Rattle.page_cache.specs.Slots.{slot_of, seen, differs, dirty_words, cached}
+use Rattle.page_cache.specs.Slots.{slot_of, seen, differs, dirty_words}
 use Rattle.page_cache.proofs.SlotLaws.{is_in_slot}
 use Rattle.page_cache.proofs.Counting.{one_differs, on_one_page, page_dirty, few_dirty}
 use Rattle.page_cache.proofs.Viewing.{seen_written}

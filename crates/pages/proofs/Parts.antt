@@ -6,7 +6,7 @@ use Rattle.std.proofs.lemmas.List.{get_or_append_left, get_or-append_right, same
 use borrow.Rule.Slice.PartMut.{put_mid}
 use Rattle.std.proofs.lemmas.Bool.{cases_lt}
 use Rattle.std.proofs.lemmas.Bool.Decides.{eqb_tells}
-use Rattle.model.specs.Cache.{change, changes_at, differing, on_page, placed}
+use Rattle.model.specs.Cache.{change, changes_at, on_page, placed}
 use Rattle.model.specs.Home.{page_at, patched}
 use Rattle.pages.specs.Memory.{memory}
 

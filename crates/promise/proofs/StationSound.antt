@@ -17,7 +17,7 @@ use Rattle.model.specs.Bytes.{parse}
 use Rattle.model.specs.Cache.{is_in}
 use Rattle.model.specs.Outcomes.{Outcome}
 use Rattle.model.specs.Station.{StationState, Input, Calls, Comes, begun, is_waiting, is_page_awaited, is_free_to_take, call_refusals, message_refusals, frees, does, takes_in, station_reads, meets, station_after}
-use Rattle.promise.specs.Station.{sent_by, ready_for, ready, once, StationBounded, AllStationsKept}
+use Rattle.promise.specs.Station.{sent_by, ready_for, ready, StationBounded, AllStationsKept}
 use Rattle.promise.proofs.Rows.{NoneApply, unless_either}
 use Rattle.promise.proofs.Pages.{once_push}
 use Rattle.promise.proofs.Rising.{rising_none}

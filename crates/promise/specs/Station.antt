@@ -12,8 +12,8 @@ use Rattle.model.specs.declared.Awaited.{Awaited}
 use Rattle.model.specs.declared.Awaited.TheVariants.{Nothing, Page, Lock}
 use Rattle.model.specs.declared.Counters.{Counters}
 use Rattle.model.specs.Bytes.{parse}
-use Rattle.model.specs.Cache.{Cache, is_in, installed}
-use Rattle.model.specs.Outcomes.{Outcome, Row, refused}
+use Rattle.model.specs.Cache.{is_in, installed}
+use Rattle.model.specs.Outcomes.{Row, refused}
 use Rattle.model.specs.Station.{StationState, Input, Comes, begun, call_refusals, message_refusals, is_full, calls, station_hears, meets, station_after}
 
 -- A refusal changes nothing, gives nothing, sends nothing, and is no event.

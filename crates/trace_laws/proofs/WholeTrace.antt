@@ -3,7 +3,7 @@ use Rattle.std.proofs.Common.{◌≡◌, ℕ, ◌<◌, eqb, ◌⊎◌, List, [],
 use Rattle.std.proofs.ByRecursion.{All-push}
 use Rattle.std.proofs.lemmas.List.{nil_from_length}
 use Rattle.std.proofs.lemmas.Bool.{cases_Bool, eqb-true}
-use Rattle.std.specs.List.{AllByRecursion as All}
+use Rattle.std.specs.List.{AllByRecursion}
 use Rattle.basics.specs.declared.Refusal.{Refusal}
 use Rattle.basics.specs.declared.Refusal.TheVariants.{Malformed}
 use Rattle.basics.specs.Numbers.{u32_bytes}
@@ -42,7 +42,7 @@ bytes_more es (Release s l) = ten_more es s 4 l 0
 event_more : (es : List Event) (e : Event) → InRange e → read_on (between es) (bytes_of e) ≡ between (e ∷ es)
 event_more es e h = bytes_more es e ∙ ap (λ q. onward es [] (ripened q)) (event_back e h)
 
-trace_read : (es : List Event) → All InRange es → read_on (Ok none_read) (trace_bytes es) ≡ between es
+trace_read : (es : List Event) → AllByRecursion InRange es → read_on (Ok none_read) (trace_bytes es) ≡ between es
 trace_read [] h = refl
 trace_read (e ∷ es) h =
     read_append (Ok none_read) (trace_bytes es) (bytes_of e) ∙ (ap (λ r. read_on r (bytes_of e)) (trace_read es h.1) ∙ event_more es e h.0)
@@ -52,7 +52,7 @@ trace_back es h = ap whole (trace_read es h)
 
 -- the events read and the bytes left over are together the bytes seen so far
 record Reads (seen : List ℕ) (r : Reading) : Type 0 where
-  range : All InRange r.trace
+  range : AllByRecursion InRange r.trace
   small : Bytes r.part
   text : seen ≡ trace_bytes r.trace ++ r.part
 
@@ -63,7 +63,7 @@ Seen seen (Err why) = why ≡ Malformed
 
 -- the tenth byte of an event: what was read of its bytes decides
 tenth :
-    (seen part : List ℕ) (es : List Event) (q : Result Event Refusal) → All InRange es → seen ≡ trace_bytes es ++ part → Told part q →
+    (seen part : List ℕ) (es : List Event) (q : Result Event Refusal) → AllByRecursion InRange es → seen ≡ trace_bytes es ++ part → Told part q →
     Seen seen (onward es [] (ripened q))
 tenth seen part es (Ok e) h s t =
     record { range = (t.range, h); small = tt; text = s ∙ (ap (λ x. trace_bytes es ++ x) t.text ∙ sym (append-nil _)) }

@@ -1,6 +1,6 @@
 -- What is promised of events and traces as bytes. Assumes nothing.
 use Rattle.std.specs.Prelude.{◌≡◌, ℕ, ◌<◌, T, ◌⊎◌, List, Ok, Err}
-use Rattle.std.specs.List.{AllByRecursion as All}
+use Rattle.std.specs.List.{AllByRecursion}
 use Rattle.basics.specs.declared.Refusal.TheVariants.{Malformed}
 use Rattle.basics.specs.Numbers.{Word}
 use Rattle.trace.specs.declared.Event.{Event}
@@ -13,7 +13,7 @@ pub record InRange (e : Event) : Type 0 where
   pub fits : Word (value_of e)
 
 abbrev pub Bytes : List ℕ → Type 0
-Bytes bs = All (λ b. b < 256) bs
+Bytes bs = AllByRecursion (λ b. b < 256) bs
 
 abbrev pub EventComesBack : Type 0
 EventComesBack = (e : Event) → InRange e → read_event (bytes_of e) ≡ Ok e
@@ -26,10 +26,10 @@ abbrev pub EventOneText : Type 0
 EventOneText = (bs : List ℕ) → Bytes bs → ((e : Event) → read_event bs ≡ Ok e → TextOf bs e)
 
 abbrev pub TraceComesBack : Type 0
-TraceComesBack = (es : List Event) → All InRange es → read_trace (trace_bytes es) ≡ Ok es
+TraceComesBack = (es : List Event) → AllByRecursion InRange es → read_trace (trace_bytes es) ≡ Ok es
 
 pub record TraceOf (bs : List ℕ) (es : List Event) : Type 0 where
-  pub range : All InRange es
+  pub range : AllByRecursion InRange es
   pub text : bs ≡ trace_bytes es
 
 -- bytes are some trace's, or they are refused as malformed

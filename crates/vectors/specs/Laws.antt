@@ -1,6 +1,6 @@
 -- What the check tells of a trace, in terms of what happens before what. Assumes nothing.
 use Rattle.std.specs.Prelude.{◌≡◌, ℕ, suc, ◌<◌, cond, T, List, [], ◌∷◌, length, Some, None, Option, ◌==◌}
-use Rattle.std.specs.List.{AllByRecursion as All}
+use Rattle.std.specs.List.{AllByRecursion}
 use Rattle.trace.specs.declared.Event.{Event}
 use Rattle.trace.specs.declared.Race.{Race}
 use Rattle.trace.specs.declared.Verdict.{Verdict}
@@ -42,7 +42,7 @@ StaleSaid es None = OneMemory es
 StaleSaid es (Some n) = FirstStale es n
 
 abbrev pub Known : List Event → Type 0
-Known es = All (λ e. T (is_known e)) es
+Known es = AllByRecursion (λ e. T (is_known e)) es
 
 -- a verdict is right of a trace
 pub record Judged (es : List Event) (v : Verdict) : Type 0 where

@@ -137,7 +137,9 @@ fn changes_of(bytes: &[u8]) -> ([Option<u32>; 64], usize)
 
 // The four messages on locks differ in their kind only.
 fn lock_message(bytes: &[u8]) -> Result<Message, Refusal>
-    requires { (5 ≤ slice_index bytes.now 0) × ((slice_index bytes.now 0 ≤ 8) × (1 ≤ length bytes.now)) }
+    requires low { 5 ≤ slice_index bytes.now 0 }
+    requires high { slice_index bytes.now 0 ≤ 8 }
+    requires some { 1 ≤ length bytes.now }
     ensures { result ≡ parse bytes.now }
 {
     if bytes.len() != 7 {

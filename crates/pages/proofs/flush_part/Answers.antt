@@ -6,8 +6,8 @@ use Rattle.pages.proofs.flush_part.Goals.{then-word-twin, else-word-twin}
 pub loop-place-init : goal.loop-place-init
 loop-place-init c = none_collected c.args.copy.now c.args.twin.now
 
-pub overflow-add-count : goal.overflow-add-count
-overflow-add-count c = omega (arith, few_collected c.loop-place.invariant)
+pub overflow_add-count : goal.overflow_add-count
+overflow_add-count c = omega (arith, few_collected c.loop-place.invariant)
 
 pub loop-place-preserved : goal.loop-place-preserved
 loop-place-preserved c =

@@ -4,4 +4,4 @@ use Rattle.pages.proofs.patch_at.Goals as goal
 
 pub returns : goal.returns
 returns c =
-    patched_part c.args.words.now c.put-in.new.part c.args.page c.args.start _ c.args.changes.now c.requires.there (omega arith) c.requires.whole c.put-in.auto.part c.put-in.ensures
+    patched_part c.args.words.now c.put_in.new.part c.args.page c.args.start _ c.args.changes.now c.requires.there (omega arith) c.requires.whole c.put_in.auto.part c.put_in.ensures

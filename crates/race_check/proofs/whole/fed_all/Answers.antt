@@ -7,7 +7,7 @@ loop-event-init c = fed_none _ c.args.events.now c.requires
 
 pub loop-event-preserved : goal.loop-event-preserved
 loop-event-preserved c =
-    fed_more c.args.events.now c.loop-event.event-index c.loop-event.invariant _ _ refl c.loop-event-test.true c.step.result c.step.ensures.answer _ _ c.in-default.is c.step.ensures.fed
+    fed_more c.args.events.now c.loop-event.event-index c.loop-event.invariant _ _ refl c.loop-event-test.true c.step.result c.step.ensures.answer _ _ c.in_default.is c.step.ensures.fed
 
 pub returns-in-Err : goal.returns-in-Err
 returns-in-Err c =

@@ -11,7 +11,7 @@ loop-place-preserved c =
     let k = c.loop-place in
     elim c.if-at-bytes.branch [
       | then-at-bytes+then-bytes-at w ↦
-          now_taken c.args.bytes.now k.place k.at k.changes k.invariant c.loop-place-test.true w.if-at-bytes.true w.if-bytes-at.true w.u32-at.ensures w.at-is w.changes-is
+          now_taken c.args.bytes.now k.place k.at k.changes k.invariant c.loop-place-test.true w.if-at-bytes.true w.if-bytes-at.true w.u32_at.ensures w.at-is w.changes-is
       | else-at-bytes w ↦
           now_other c.args.bytes.now k.place k.at k.changes k.invariant c.loop-place-test.true
           (elim w.else-at-bytes.branch [

@@ -1,18 +1,18 @@
 use Rattle.std.proofs.Common.{sym, ◌∙◌, arith}
 use Rattle.wire.proofs.Written.{count_more, count_all, one_counts, none_counts}
 use Rattle.wire.proofs.write.change_count.Goals as goal
-use Rattle.wire.proofs.write.change_count.Goals.{then-is-some, else-is-some}
+use Rattle.wire.proofs.write.change_count.Goals.{then-is_some, else-is_some}
 
 pub loop-change-preserved : goal.loop-change-preserved
 loop-change-preserved c =
     let k = c.loop-change in
     let step = count_more c.args.changes.now k.change-index k.count _ k.invariant.1 (omega arith) in
-    elim c.if-is-some.branch [
-      | then-is-some w ↦
-          let one = one_counts _ (sym c.is-some.ensures ∙ w.if-is-some.true) in
+    elim c.if-is_some.branch [
+      | then-is_some w ↦
+          let one = one_counts _ (sym c.is_some.ensures ∙ w.if-is_some.true) in
           (omega (arith, w.count-is, k.invariant.0), omega (arith, w.count-is, one, step))
-      | else-is-some w ↦
-          let none = none_counts _ (sym c.is-some.ensures ∙ w.if-is-some.false) in
+      | else-is_some w ↦
+          let none = none_counts _ (sym c.is_some.ensures ∙ w.if-is_some.false) in
           (omega (arith, w.count-is, k.invariant.0), omega (arith, w.count-is, none, step))
     ]
 

@@ -5,4 +5,4 @@ use Rattle.home_node.proofs.node.receive.zeros.Goals as goal
 
 pub returns : goal.returns
 returns c =
-    IfOk-weaker _ _ _ (λ (v : Vec ℕ Global) (exact : ((y : ℕ) → y ≡ 0 → y ≡ 0) → vec_items v ≡ replicate 65536 0). exact (λ y e. e)) c.vec.ensures.exact
+    IfOk-weaker _ _ _ (λ (v : Vec ℕ Global) (exact : ((y : ℕ) → y ≡ 0 → y ≡ 0) → vec_items v ≡ replicate 65536 0). exact (λ y e. e)) c.vec.ensures.items_if_clones_equal

@@ -4,6 +4,6 @@ use Rattle.judging.proofs.judge.Judge.byte.Goals as goal
 
 pub returns-in-Some : goal.returns-in-Some
 returns-in-Some c =
-    let made = c.in-ok-event in
+    let made = c.in_ok-event in
     event_fed _ _ c.args.byte c.in-Some.event c.step.result (sym c.byte.ensures.event ∙ made.was ∙ ap Ok c.in-Some.is) refl
     made.ensures.part c.step.ensures.answer c.step.ensures.fed

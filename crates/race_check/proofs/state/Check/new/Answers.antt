@@ -1,5 +1,5 @@
 use Rattle.std.proofs.lemmas.Result.{IfOk-from_err}
 use Rattle.race_check.proofs.state.Check.new.Goals as goal
 
-pub returns-in-err-reads : goal.returns-in-err-reads
-returns-in-err-reads c = IfOk-from_err c.from-residual-in-err-reads.result _ c.from-residual-in-err-reads.ensures.0
+pub returns-in_err-reads : goal.returns-in_err-reads
+returns-in_err-reads c = IfOk-from_err c.from_residual-in_err-reads.result _ c.from_residual-in_err-reads.ensures.0

@@ -14,7 +14,7 @@ returns-in-Read c =
     let i = c.in-Read in
     let r = c.read.ensures in
     read_taken a.progress a.clocks.now a.writes.now a.reads.now a.event c.requires.known i.station i.word i.value r.whole i.is
-    c.requires.all-reads c.told-reads r.found r.clocks r.reads
+    c.requires.all_reads c.told-reads r.found r.clocks r.reads
 
 pub returns-in-Write : goal.returns-in-Write
 returns-in-Write c =
@@ -22,7 +22,7 @@ returns-in-Write c =
     let i = c.in-Write in
     let r = c.write.ensures in
     write_taken a.progress a.clocks.now a.writes.now a.reads.now a.event c.requires.known i.station i.word i.value r.whole i.is
-    c.requires.all-writes r.found r.clocks r.writes
+    c.requires.all_writes r.found r.clocks r.writes
 
 pub returns-in-Acquire : goal.returns-in-Acquire
 returns-in-Acquire c =
@@ -30,7 +30,7 @@ returns-in-Acquire c =
     let i = c.in-Acquire in
     let r = c.acquire.ensures in
     acquire_taken a.progress a.clocks.now a.writes.now a.reads.now a.event c.requires.known i.station i.lock r.whole.0 r.whole.1
-    c.one-more.ensures i.is r.clocks
+    c.one_more.ensures i.is r.clocks
 
 pub returns-in-Release : goal.returns-in-Release
 returns-in-Release c =
@@ -38,4 +38,4 @@ returns-in-Release c =
     let i = c.in-Release in
     let r = c.release.ensures in
     release_taken a.progress a.clocks.now a.writes.now a.reads.now a.event c.requires.known i.station i.lock r.whole.0 r.whole.1
-    c.one-more-in-Release.ensures i.is r.clocks
+    c.one_more-in-Release.ensures i.is r.clocks
