@@ -7,6 +7,7 @@ use judging::Judge;
 use lines::push_refusal;
 use std::fs::File;
 use std::io::{Read, Write};
+use std::process::ExitCode;
 use std::{env, io};
 use trace::Verdict;
 use verdict_lines::push_verdict;
@@ -99,10 +100,11 @@ fn complain(rt: &HostRuntime, event: u64, why: Refusal) -> io::Result<()> {
     }
 }
 
-fn main(rt: HostRuntime) -> anyhow::Result<()> {
-    match run(&rt) {
-        Ok(true) => Ok(()),
-        Ok(false) => Err(anyhow!("the trace was refused")),
-        Err(error) => Err(error),
+// A trace that was refused is told by the status alone: what is to be said of it was said.
+fn main(rt: HostRuntime) -> anyhow::Result<ExitCode> {
+    if run(&rt)? {
+        Ok(ExitCode::SUCCESS)
+    } else {
+        Ok(ExitCode::FAILURE)
     }
 }
