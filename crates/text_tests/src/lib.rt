@@ -30,14 +30,14 @@ mod tests {
     fn writes_hex(rt: HostRuntime) -> Result<(), Fail> {
         let mut out = Vec::new(rt.alloc());
         push_hex(&mut out, &[0, 9, 10, 175, 255])?;
-        assert!(rt; out.as_slice() == b"00090aafff");
+        assert!(rt; out.as_slice() == b"00090aafff".as_slice());
         Ok(())
     }
 
     #[test]
     fn reads_hex_in_either_case(rt: HostRuntime) -> Result<(), Fail> {
         let bytes = unhex(rt.alloc(), b"00090aAFfF")?;
-        assert!(rt; bytes.as_slice() == &[0, 9, 10, 175, 255]);
+        assert!(rt; bytes.as_slice() == [0, 9, 10, 175, 255].as_slice());
         Ok(())
     }
 
@@ -64,16 +64,16 @@ mod tests {
         push_number(&mut out, 0)?;
         push_number(&mut out, 1090)?;
         push_number(&mut out, 4294967295)?;
-        assert!(rt; out.as_slice() == b"010904294967295");
+        assert!(rt; out.as_slice() == b"010904294967295".as_slice());
         Ok(())
     }
 
     #[test]
     fn parts_words(rt: HostRuntime) {
         let (word, rest) = next_word(b" \tshow  12\r");
-        assert!(rt; word == b"show");
-        assert!(rt; rest == b"  12\r");
-        assert!(rt; next_word(rest).0 == b"12");
+        assert!(rt; word == b"show".as_slice());
+        assert!(rt; rest == b"  12\r".as_slice());
+        assert!(rt; next_word(rest).0 == b"12".as_slice());
     }
 
     #[test]
@@ -85,7 +85,7 @@ mod tests {
         let HomeLine::Message(bytes) = home_line(heap, b" 0aFF ")? else {
             return Err(Fail::new("no message"));
         };
-        assert!(rt; bytes.as_slice() == &[10, 255]);
+        assert!(rt; bytes.as_slice() == [10, 255].as_slice());
         Ok(())
     }
 
