@@ -3,9 +3,9 @@
 
 usage: python3 tools/respell.py [--check]      at the top of the repository
 
-What specs/ and proofs/ declare in camelCase or with dashes gets underscores: definitions, lemmas, fields of records, constructors.
-The names that the check itself makes in Answers.antt and Invariants.antt (goals, steps, variants) keep theirs, and so do functions of src/, strings and prose.
-It goes by whole words, derives its table from the declarations that it finds, and stops where two names would fall together. --check writes nothing.
+What specs/ and proofs/ declare in camelCase or with dashes gets underscores: definitions, lemmas, fields of records. A name in camelCase turns in comments too.
+The names that the check itself makes in Answers.antt and Invariants.antt (goals, steps, variants) keep theirs, and so do functions of src/, strings, and words with dashes in comments.
+It goes by whole words, derives its table from the declarations that it finds, and stops where two of these, or one of these and another word of specs/ or proofs/, would fall together. --check writes nothing.
 """
 import os
 import re
@@ -25,7 +25,7 @@ WORD = re.compile(r'[^\s(){}.;,@"«»]+')
 DECLARED = re.compile(r"^[ ]*(?:(?:pub|abbrev|unfoldable|data|record) )*([^\s(){}.;,@\"«»]+)(?: \{[^{}\n]*\}| \([^()\n]*\))* :(?= |$)", re.M)
 MADE_TYPE = re.compile(r"^[ ]*(?:(?:pub|abbrev) )*([^\s(){}.;,@\"«»]+) : goal\.", re.M)
 FIELDS = re.compile(r"^ *(?:pub )?record [^\n]* where\n((?:  [^\n]*\n|\n)+)", re.M)
-CLAUSES = re.compile(r'//[^\n]*|"(?:\\.|[^"\\])*"', re.S)
+QUIET = re.compile(r'//[^\n]*|"(?:\\.|[^"\\])*"', re.S)
 
 
 def texts(kinds):
@@ -78,7 +78,7 @@ def table():
 
 
 def respelled_antt(path, text, turned, fields):
-    out, at = [], 0
+    out = []
     made = set(MADE_TYPE.findall(text)) if by_check(path) else set()
     for line in text.splitlines(keepends=True):
         m = re.search(r"(^|(?<=\s))--", line)
@@ -108,9 +108,9 @@ def in_prose(prose, turned):
 
 
 def respelled_rt(text, turned):
-    """Only camelCase or dashed words turn, which no Rust has outside clauses; strings and prose stay."""
+    """Only camelCase or dashed words turn, which no Rust has outside clauses and comments; strings stay."""
     out, at = [], 0
-    for m in CLAUSES.finditer(text):
+    for m in QUIET.finditer(text):
         out.append(WORD.sub(lambda w: turned.get(w[0], w[0]), text[at : m.start()]))
         out.append(in_prose(m[0], turned) if m[0].startswith("//") else m[0])
         at = m.end()
