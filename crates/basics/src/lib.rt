@@ -1,8 +1,10 @@
 // How much there is of everything, and why things are refused.
 #![tactic(auto)]
 
-ghost use Rattle.std.specs.Prelude.{◌≡◌};
-ghost use Rattle.basics.specs.Refusals.{number_of};
+ghost use Rattle.std.specs.Prelude.{◌≡◌, Some};
+ghost use Rattle.basics.specs.Refusals.{in_words, number_of};
+
+use std::fmt;
 
 // How much there is of everything; `specs/Sizes` has the same numbers for the rules.
 pub const STATIONS: u8 = 16;
@@ -19,7 +21,7 @@ pub const STATION_PAGES: usize = 256;
 pub const WORDS: usize = 65536;
 
 // Why a message or a call is refused. The lowest number that applies is given.
-#[derive(Clone, Copy, PartialEq, Debug)]
+#[derive(Clone, Copy, Debug, PartialEq, Eq)]
 pub enum Refusal {
     // malformed bytes or line; a station, page, word or lock out of range
     Malformed = 1,
@@ -40,10 +42,20 @@ pub enum Refusal {
 }
 
 impl Refusal {
-    // The number by which users know the refusal.
+    // The number by which users know the refusal. A method, since `u8::from(why)` would not say which number it is.
     pub fn number(self) -> u8
         ensures { result ≡ number_of self }
     {
         self as u8
+    }
+}
+
+// What programs print of a refusal.
+impl fmt::Display for Refusal {
+    ghost output = { λ why. Some (in_words why) };
+
+    #[tactic(auto, unfolding(crate::specs::Refusals::in_words))]
+    fn fmt<W: fmt::Write>(&self, f: &mut fmt::Formatter<W>) -> fmt::Result {
+        write!(f, "turned away {}", self.number())
     }
 }

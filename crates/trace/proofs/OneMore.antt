@@ -9,36 +9,20 @@ use Rattle.trace.proofs.Places.{at_within, at_more, at_stays, earlier_more, befo
 module _ (g : Event) (es : List Event) where
   -- races
   clash_more : (m n : ℕ) → Clash es m n → Clash (g ∷ es) m n
-  clash_more m n c =
-      record {
-        earlier = c.earlier;
-        later = c.later;
-        at_first = at_stays es g m c.at_first;
-        at_second = at_stays es g n c.at_second;
-        rising = c.rising;
-        conflict = c.conflict;
-      }
+  clash_more m n c = search (arith, at_stays)
 
   pub clash_less : (m n : ℕ) → n ≤ length es → Clash (g ∷ es) m n → Clash es m n
-  clash_less m n h c =
-      record {
-        earlier = c.earlier;
-        later = c.later;
-        at_first = sym (at_more es g m (omega (arith, c.rising))) ∙ c.at_first;
-        at_second = sym (at_more es g n h) ∙ c.at_second;
-        rising = c.rising;
-        conflict = c.conflict;
-      }
+  clash_less m n h c = grind (arith, at_more)
 
   clash_within : (m n : ℕ) → Clash es m n → n ≤ length es
   clash_within m n c = at_within es n c.at_second
 
   racing_more : (m n : ℕ) → Racing es m n → Racing (g ∷ es) m n
   racing_more m n r =
-      record { clash = clash_more m n r.clash; unordered = λ b. r.unordered (before_less g (clash_within m n r.clash) b) }
+      let l = clash_within m n r.clash in search (arith, clash_more, before_less)
 
   racing_less : (m n : ℕ) → n ≤ length es → Racing (g ∷ es) m n → Racing es m n
-  racing_less m n h r = record { clash = clash_less m n h r.clash; unordered = λ b. r.unordered (before_more g b) }
+  racing_less m n h r = search (arith, clash_less, before_more)
 
   pub free_less : RaceFree (g ∷ es) → RaceFree es
   free_less f m n c = before_less g (clash_within m n c) (f m n (clash_more m n c))

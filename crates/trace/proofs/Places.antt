@@ -6,12 +6,8 @@ use Rattle.trace.specs.Order.{event_at, Before, own, lock, through}
 use Rattle.trace.specs.Memory.{earlier}
 
 pub at_within : (es : List Event) (n : ℕ) {e : Event} → event_at es n ≡ Some e → n ≤ length es
-at_within [] n h = absurd (grind (arith, h))
-at_within (f ∷ es) n h =
-    elim (eqb_tells n (suc (length es))) [
-      | inl t ↦ grind (arith, t.1)
-      | inr t ↦ let k : event_at (f ∷ es) n ≡ event_at es n = rw t.0 refl in grind (arith, at_within es n (sym k ∙ h))
-    ]
+at_within [] n h = cc
+at_within (f ∷ es) n h = grind (arith, nat_tests, at_within es n)
 
 pub at_last : (es : List Event) (e : Event) → event_at (e ∷ es) (suc (length es)) ≡ Some e
 at_last es e = grind (arith, nat_tests)
@@ -29,8 +25,8 @@ pub at_cases :
     ((n ≡ suc (length es)) × (e ≡ f)) ⊎ ((n ≤ length es) × (event_at es n ≡ Some e))
 at_cases es f n {e} h =
     elim (eqb_tells n (suc (length es))) [
-      | inl t ↦ let k : event_at (f ∷ es) n ≡ Some f = rw t.0 refl in inl (t.1, cc)
-      | inr t ↦ let k : event_at es n ≡ Some e = rw t.0 at h in inr (at_within es n k, k)
+      | inl t ↦ inl (t.1, grind (arith, t.0))
+      | inr t ↦ let k = rw t.0 at h in inr (at_within es n k, k)
     ]
 
 earlier_all : (es : List Event) (n : ℕ) → length es < n → earlier n es ≡ es

@@ -1,4 +1,4 @@
--- What an event is to the rules. Kinds of events are told apart here and in their bytes, and nowhere else. Assumes nothing.
+-- What an event is to the rules. Kinds of events are told apart here, in their bytes and in what is printed of them, and nowhere else. Assumes nothing.
 use Rattle.std.specs.Prelude.{ℕ, Bool, false, ◌&&◌, ◌||◌, Some, None, Option, ◌==◌}
 use Rattle.basics.specs.Sizes.{is_station, is_word, is_lock}
 use Rattle.trace.specs.declared.Event.{Event}

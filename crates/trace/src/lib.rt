@@ -1,4 +1,4 @@
-// What stations did: events, their ten bytes, and what is said of a trace of them.
+// What stations did: events, their ten bytes and their words, and what is said of a trace of them.
 // Happens-before, races and one memory are defined in specs/.
 #![tactic(auto)]
 
@@ -8,11 +8,12 @@ ghost use Rattle.trace.specs.Events.{is_known};
 use basics::{LOCKS, STATIONS, WORDS};
 
 mod bytes;
+mod words;
 
 pub use bytes::{decode, encode};
 
 // What a station did. A read has the value that it gave, a write the value that it left.
-#[derive(Clone, Copy, Debug, PartialEq)]
+#[derive(Clone, Copy, Debug, PartialEq, Eq)]
 pub enum Event {
     Read { station: u8, word: u32, value: u32 },
     Write { station: u8, word: u32, value: u32 },
@@ -37,21 +38,21 @@ impl Event {
 }
 
 // An event and its place in the trace; the first has place 1.
-#[derive(Clone, Copy, Debug, PartialEq)]
+#[derive(Clone, Copy, Debug, PartialEq, Eq)]
 pub struct Placed {
     pub place: u32,
     pub event: Event,
 }
 
 // Two events that conflict, and neither happens before the other.
-#[derive(Clone, Copy, Debug, PartialEq)]
+#[derive(Clone, Copy, Debug, PartialEq, Eq)]
 pub struct Race {
     pub earlier: Placed,
     pub later: Placed,
 }
 
 // What the two checks say of a trace.
-#[derive(Clone, Copy, Debug, PartialEq)]
+#[derive(Clone, Copy, Debug, PartialEq, Eq)]
 pub struct Verdict {
     // the first race; none in a race-free trace
     pub race: Option<Race>,

@@ -4,7 +4,7 @@
 ghost use Rattle.vectors.specs.Laws.{VectorsTell, CheckTells};
 
 // The last time that a station read a word, or that it was written.
-#[derive(Clone, Copy)]
+#[derive(Clone, Copy, Debug, PartialEq, Eq)]
 pub struct Access {
     // how many events its station had had by then, this one counted; 0 where there was none
     pub count: u32,
@@ -12,22 +12,18 @@ pub struct Access {
     pub value: u32,
 }
 
-#[derive(Clone, Copy)]
+#[derive(Clone, Copy, Debug, PartialEq, Eq)]
 pub struct LastWrite {
     pub station: u8,
     pub access: Access,
 }
 
 // What happens before a station's next event is what its vector counts.
-pub fn vectors_tell() -> u8
+pub fn vectors_tell()
     ensures { VectorsTell }
-{
-    0
-}
+{}
 
 // The check says race-free of race-free traces alone, else the first race, and so for one memory and the first stale read.
-pub fn check_tells() -> u8
+pub fn check_tells()
     ensures { CheckTells }
-{
-    0
-}
+{}

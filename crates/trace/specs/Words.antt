@@ -1,11 +1,15 @@
--- What `judge` prints of a verdict. Assumes nothing.
-use Rattle.std.specs.Prelude.{ℕ, List, ◌++◌, Some, None, codes, Option}
-use Rattle.lines.specs.Lines.{line, numbered}
+-- What programs print of events, races and verdicts. Assumes nothing.
+use Rattle.std.specs.Prelude.{ℕ, List, ◌++◌, Some, None, codes, decimal, Option}
+use Rattle.basics.specs.Lines.{line}
 use Rattle.trace.specs.declared.Event.{Event}
 use Rattle.trace.specs.declared.Event.TheVariants.{Read, Write, Acquire, Release}
 use Rattle.trace.specs.declared.Placed.{Placed}
 use Rattle.trace.specs.declared.Race.{Race}
 use Rattle.trace.specs.declared.Verdict.{Verdict}
+
+-- some words with a number behind them
+abbrev pub numbered : List ℕ → ℕ → List ℕ
+numbered words n = words ++ decimal n
 
 -- an event in words
 abbrev pub in_words : Event → List ℕ
@@ -15,14 +19,20 @@ in_words (Acquire s l) = numbered (codes "station ") s ++ numbered (codes " took
 in_words (Release s l) = numbered (codes "station ") s ++ numbered (codes " freed lock ") l
 
 -- its place, and what it was
+abbrev pub placed_words : Placed → List ℕ
+placed_words p = decimal p.place ++ (codes ": " ++ in_words p.event)
+
+-- and that as a line of its own
 abbrev pub placed_line : Placed → List ℕ
 placed_line p = line (numbered (codes "  ") p.place ++ (codes ": " ++ in_words p.event))
 
+-- the first race, if there is one: where its events are, then each of them
 abbrev pub race_lines : Option Race → List ℕ
 race_lines None = line (codes "orderly")
 race_lines (Some r) =
     line (numbered (codes "unordered ") r.earlier.place ++ numbered (codes " ") r.later.place) ++ (placed_line r.earlier ++ placed_line r.later)
 
+-- the first stale read, if there is one
 abbrev pub memory_line : Option ℕ → List ℕ
 memory_line None = line (codes "one memory")
 memory_line (Some n) = line (numbered (codes "stale ") n)
