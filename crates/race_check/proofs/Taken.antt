@@ -1,20 +1,25 @@
 -- What the code does with an event is one step of the check. Assumes nothing.
-use Rattle.std.proofs.Common.{◌≡◌, ℕ, suc, ◌<◌, true, List, [], length, get_or, Some, None, Option, refl, ap, arith}
-use Rattle.std.proofs.lemmas.Bool.Decides.{nat_tests}
+use Rattle.std.proofs.Common.{◌≡◌, ℕ, suc, ◌<◌, List, length, get_or, set, Some, None, Option, vec_items, sym, refl, ap, ◌∙◌, inl, inr, ◌⊎◌, arith}
+use Rattle.std.proofs.lemmas.List.{get_or_default}
+use Rattle.basics.specs.Sizes.{put}
 use Rattle.basics.proofs.Tables.{put_set}
-use Rattle.trace.specs.declared.Event.TheVariants.{Read, Write, Acquire, Release}
 use Rattle.trace.specs.declared.Event.{Event}
-use Rattle.trace.specs.Events.{is_known}
+use Rattle.trace.specs.declared.Event.TheVariants.{Read, Write, Acquire, Release}
 use Rattle.trace.specs.declared.Placed.{Placed}
+use Rattle.trace.specs.declared.Race.{Race}
+use Rattle.trace.specs.declared.Verdict.{Verdict}
+use Rattle.trace.specs.Events.{by}
 use Rattle.vectors.specs.declared.Access.{Access}
 use Rattle.vectors.specs.declared.LastWrite.{LastWrite}
-use Rattle.vectors.specs.Check.{later, either, unwritten, unordered_write, up_to, access_of, stepped}
+use Rattle.vectors.specs.Check.{Clocks, Tables, never, before, up_to, clocks_with, either, later, race_with, stale_of, unordered_write, unordered_read, unordered_with, stepped}
 use Rattle.race_check.specs.declared.clocks.VectorClocks.{VectorClocks}
-use Rattle.race_check.specs.declared.progress.Progress.{Progress}
-use Rattle.race_check.specs.Kept.{own_of, accessed, acquired, released, access_in, with_read, with_write, found_read, found_write, OwnWhole, LockWhole}
-use Rattle.race_check.specs.Rows.{vectors_of, writes_of}
+use Rattle.race_check.specs.declared.history.WordHistory.{WordHistory}
+use Rattle.race_check.specs.declared.state.Check.{Check}
+use Rattle.race_check.specs.Checks.{check_of}
+use Rattle.race_check.specs.Rows.{vector_of, accesses_of, untouched, word_of, reads_of, writes_of}
 use Rattle.race_check.specs.States.{clocks_of, tables_of}
-use Rattle.race_check.proofs.Advancing.{accessed_is, acquired_is, released_is, read_left}
+use Rattle.race_check.proofs.Feeding.{writers}
+use Rattle.race_check.proofs.Entries.{entry_set, put_same}
 
 later_none : (p : Option Placed) → later p None ≡ p
 later_none None = refl
@@ -24,46 +29,83 @@ either_none : {A : Type 0} (x : Option A) → either x None ≡ x
 either_none None = refl
 either_none (Some y) = refl
 
--- what a known event names is there; a write as a read, a release as an acquire
-word_known : (s w v : ℕ) → is_known (Read s w v) ≡ true → (s < 16) × (w < 65536)
-word_known s w v k = (grind (arith, nat_tests, k), grind (arith, nat_tests, k))
+same :
+    {m n : ℕ} {c d : Clocks} {w u : ℕ → LastWrite} {r s : ℕ → ℕ → Access} {a b : Option Race} {x y : Option ℕ} → m ≡ n → c ≡ d → w ≡ u → r ≡ s → a ≡ b → x ≡ y →
+    ◌≡◌ {A = Tables} (record { places = m; clocks = c; write = w; read = r; race = a; stale = x }) (record { places = n; clocks = d; write = u; read = s; race = b; stale = y })
+same e f g h i j = rw (e, f, g, h, i, j) refl
 
-pub lock_known : (s l : ℕ) → is_known (Acquire s l) ≡ true → (s < 16) × (l < 64)
-lock_known s l k = (grind (arith, nat_tests, k), grind (arith, nat_tests, k))
+-- an event that is neither a read nor a write; d: the clocks with it
+pub other_taken :
+    (t : Check) (e : Event) {m : ℕ} (d : VectorClocks) → m ≡ suc t.places → clocks_of d ≡ clocks_with (clocks_of t.clocks) e →
+    ((s : ℕ) × (l : ℕ) × (e ≡ Acquire s l)) ⊎ ((s : ℕ) × (l : ℕ) × (e ≡ Release s l)) → tables_of m t.verdict d (vec_items t.words) ≡ stepped (check_of t) e
+other_taken t e d next clocks (inl k) = rw (clocks, k.2, either_none t.verdict.race, either_none t.verdict.stale, next) refl
+other_taken t e d next clocks (inr k) = rw (clocks, k.2, either_none t.verdict.race, either_none t.verdict.stale, next) refl
 
-count_is : (c : VectorClocks) (s w v : ℕ) → suc (get_or (own_of c s) s 0) ≡ up_to (clocks_of c) (Read s w v) s
-count_is c s w v = grind (arith, nat_tests)
+-- t: the check before the event; h: what it keeps of the word
+module _ (t : Check) (w : ℕ) {h : WordHistory} (here : h ≡ get_or (vec_items t.words) w h) (below : w < 65536) where
+  abbrev words : List WordHistory
+  words = vec_items t.words
 
-access_is : (p : Progress) (c : VectorClocks) (ws : List LastWrite) (rs : List (List Access)) (s w v : ℕ) → access_in p c s v ≡ access_of (tables_of p c ws rs) (Read s w v)
-access_is p c ws rs s w v = ap (λ n. record { count = n; place = suc p.places; value = v }) (count_is c s w v)
+  there : w < length words
+  there = omega (arith, t.words.ok.0, t.all_words)
 
--- q, d, us, xs: what is there after the event
-module _ (p : Progress) (c : VectorClocks) (ws : List LastWrite) (rs : List (List Access)) (e : Event) (known : is_known e ≡ true) {q : Progress} {d : VectorClocks} where
-  module _ (s w v : ℕ) (own : OwnWhole c s) where
-    pub read_taken :
-        e ≡ Read s w v → length rs ≡ 65536 → ((i : ℕ) → i < length rs → length (get_or rs i []) ≡ 16) → {xs : List (List Access)} →
-        q ≡ found_read p c ws s w v → d ≡ accessed c s → xs ≡ with_read rs w s (access_in p c s v) → tables_of q d ws xs ≡ stepped (tables_of p c ws rs) e
-    read_taken is all rows f g h =
-        let k = word_known s w v (rw is at known) in
-        let there : w < length rs = rw all k.1 in
-        rw (is, f, g, h, accessed_is c s k.0 own, read_left rs w s (access_in p c s v) there (omega (arith, rows w there, k.0)), access_is p c ws rs s w v, later_none (unordered_write (vectors_of c.stations s) w (writes_of ws w)))
-        refl
+  kept : h ≡ word_of words w
+  kept = here ∙ get_or_default words w h untouched there
 
-    pub write_taken :
-        e ≡ Write s w v → length ws ≡ 65536 → {us : List LastWrite} → q ≡ found_write p c ws rs s w v → d ≡ accessed c s → us ≡ with_write ws w s (access_in p c s v) →
-        tables_of q d us rs ≡ stepped (tables_of p c ws rs) e
-    write_taken is all f g h =
-        let k = word_known s w v (rw is at known) in
-        let there : w < length ws = rw all k.1 in
-        rw (is, f, g, h, accessed_is c s k.0 own, put_set unwritten (record { station = s; access = access_in p c s v }) ws w there, access_is p c ws rs s w v, either_none p.verdict.stale) refl
+  pub writer_known : h.write.station < 16
+  writer_known = rw kept (writers (check_of t) t.reached w)
 
-  module _ (s l : ℕ) (own : OwnWhole c s) (lock : LockWhole c l) (onward : q ≡ record { places = suc p.places; verdict = p.verdict }) where
-    pub acquire_taken : e ≡ Acquire s l → d ≡ acquired c s l → tables_of q d ws rs ≡ stepped (tables_of p c ws rs) e
-    acquire_taken is f =
-        let k = lock_known s l (rw is at known) in
-        rw (is, onward, f, acquired_is c s k.0 own l k.1 lock, either_none p.verdict.race, either_none p.verdict.stale) refl
+  -- the event and its place; what comes before it; the clocks with it, and its station's count
+  module _
+      (e : Event) {m : ℕ} (b : List ℕ) (d : VectorClocks) {n : ℕ} (next : m ≡ suc t.places) (seen : vector_of b ≡ before (clocks_of t.clocks) e)
+      (clocks : clocks_of d ≡ clocks_with (clocks_of t.clocks) e) (count : n ≡ up_to (clocks_of t.clocks) e (by e)) (s x : ℕ) where
+    abbrev access : Access
+    access = record { count = n; place = m; value = x }
 
-    pub release_taken : e ≡ Release s l → d ≡ released c s l → tables_of q d ws rs ≡ stepped (tables_of p c ws rs) e
-    release_taken is f =
-        let k = lock_known s l (rw is at known) in
-        rw (is, onward, f, released_is c s k.0 own l k.1 lock, either_none p.verdict.race, either_none p.verdict.stale) refl
+    module _ (is : e ≡ Read s w x) (station : s < length h.reads) where
+      abbrev read : WordHistory
+      read = record { write = h.write; reads = set h.reads s access }
+
+      read_left : reads_of (set words w read) ≡ (stepped (check_of t) e).read
+      read_left =
+          entry_set (λ h. accesses_of h.reads) untouched read words w there ∙ ap (λ r. put w r (reads_of words)) (put_set never access h.reads s station) ∙
+          rw (kept, count, next, is) refl
+
+      write_kept : writes_of (set words w read) ≡ (stepped (check_of t) e).write
+      write_kept = entry_set (λ h. h.write) untouched read words w there ∙ rw (kept, is) (put_same w (writes_of words))
+
+      found_read : unordered_write (vector_of b) w h.write ≡ unordered_with (check_of t) e
+      found_read = ap (λ v. unordered_write v w h.write) seen ∙ rw (kept, is) (sym (later_none _))
+
+      pub read_taken :
+          {v : Verdict} →
+          v ≡ record { race = either t.verdict.race (race_with m e (unordered_write (vector_of b) w h.write)); stale = either t.verdict.stale (stale_of x h.write.access.value m) } →
+          tables_of m v d (set words w read) ≡ stepped (check_of t) e
+      read_taken f =
+          same next clocks write_kept read_left (ap (λ v. v.race) f ∙ ap (λ p. either t.verdict.race (race_with m e p)) found_read ∙ rw next refl)
+          (ap (λ v. v.stale) f ∙ rw (next, kept, is) refl)
+
+    module _ (is : e ≡ Write s w x) where
+      abbrev written : WordHistory
+      written = record { write = record { station = s; access = access }; reads = h.reads }
+
+      write_left : writes_of (set words w written) ≡ (stepped (check_of t) e).write
+      write_left = entry_set (λ h. h.write) untouched written words w there ∙ rw (count, next, is) refl
+
+      read_kept : reads_of (set words w written) ≡ (stepped (check_of t) e).read
+      read_kept = entry_set (λ h. accesses_of h.reads) untouched written words w there ∙ rw (kept, is) (put_same w (reads_of words))
+
+      found_write : later (unordered_write (vector_of b) w h.write) (unordered_read 16 (vector_of b) w (accesses_of h.reads)) ≡ unordered_with (check_of t) e
+      found_write = ap (λ v. later (unordered_write v w h.write) (unordered_read 16 v w (accesses_of h.reads))) seen ∙ rw (kept, is) refl
+
+      pub write_taken :
+          {v : Verdict} →
+          v ≡
+          record {
+            race = either t.verdict.race (race_with m e (later (unordered_write (vector_of b) w h.write) (unordered_read 16 (vector_of b) w (accesses_of h.reads))));
+            stale = t.verdict.stale;
+          } →
+          tables_of m v d (set words w written) ≡ stepped (check_of t) e
+      write_taken f =
+          same next clocks write_left read_kept (ap (λ v. v.race) f ∙ ap (λ p. either t.verdict.race (race_with m e p)) found_write ∙ rw next refl)
+          (ap (λ v. v.stale) f ∙ rw is (sym (either_none t.verdict.stale)))

@@ -1,38 +1,28 @@
--- A list that is the greater count at each of 16 places is the greatest of the two. Assumes nothing.
-use Rattle.std.proofs.Common.{◌≡◌, ℕ, zero, suc, ◌<◌, ◌≤◌, List, [], ◌∷◌, length, get_or, sym, refl, ap, ◌∙◌, arith}
+-- An array made by a closure that stays as it is. Assumes nothing.
+use Rattle.std.proofs.Common.{◌≡◌, ℕ, zero, suc, ◌+◌, ◌<◌, ◌≤◌, List, get_or, sym, ◌∙◌, inl, inr, arith}
 use mathlib.Core.Path.{fun_ext}
-use Rattle.std.proofs.lemmas.List.{ext_get_or}
-use Rattle.std.proofs.lemmas.Bool.Decides.{nat_tests}
-use Rattle.vectors.specs.Check.{greater, greatest}
-use Rattle.race_check.specs.Kept.{greatest_in}
+use denote.Param.Members.{Mut, Called}
+use Rattle.std.proofs.lemmas.Bool.{cases_lt}
+use Rattle.std.proofs.lemmas.List.{get_or_past}
+use Rattle.std.specs.Array.{IsFromFnResult, IsFromFnResultFrom}
 use Rattle.race_check.specs.Rows.{vector_of}
 
-greatest_at : (a b : List ℕ) (k : ℕ) → get_or (greatest_in a b) k 0 ≡ greater (get_or a k 0) (get_or b k 0)
-unfolding greatest_in
-greatest_at [] b k = grind (arith, nat_tests)
-greatest_at (x ∷ a) [] zero = grind (arith, nat_tests)
-greatest_at (x ∷ a) [] (suc k) = grind (arith, nat_tests)
-greatest_at (x ∷ a) (y ∷ b) zero = refl
-greatest_at (x ∷ a) (y ∷ b) (suc k) = greatest_at a b k
+-- each call below n gives v at the index
+module _ {F : Type 0} (g : Mut F (ℕ × Unit {0}) ℕ) (f : F) (v : ℕ → ℕ) (n : ℕ) (gives : (i y : ℕ) (q : F) → i < n → Called g f (i, tt) y q → (y ≡ v i) × (q ≡ f)) (ys : List ℕ) where
+  made_from : (i m k : ℕ) → i + m ≤ n → IsFromFnResultFrom g f ys i m → k < m → get_or ys (i + k) 0 ≡ v (i + k)
+  made_from i zero k e h l = absurd (omega arith)
+  made_from i (suc m) zero e h l =
+      let same : i + 0 ≡ i = omega arith in
+      rw same (h.2.1 0 ∙ (gives i h.1 h.0 (omega arith) h.3).0)
+  made_from i (suc m) (suc k) e h l =
+      let next : i + suc k ≡ i + 1 + k = omega arith in
+      rw next (made_from (i + 1) m k (omega arith) (rw (gives i h.1 h.0 (omega arith) h.3).1 at h.4) (omega arith))
 
-pub greatest_of : (a b : List ℕ) → vector_of (greatest_in a b) ≡ greatest (vector_of a) (vector_of b)
-greatest_of a b = fun_ext (greatest_at a b)
-
-pub greatest_length : (a b : List ℕ) (n : ℕ) → length a ≡ n → length b ≡ n → length (greatest_in a b) ≡ n
-unfolding greatest_in
-greatest_length [] b n e f = f
-greatest_length (x ∷ a) [] n e f = e
-greatest_length (x ∷ a) (y ∷ b) n e f = ap suc (greatest_length a b (length a) refl (omega (arith, e, f))) ∙ e
-
--- below j the greater count, and from there on the count of a
-pub record GreatestTo (j : ℕ) (a b most : List ℕ) : Type 0 where
-  pub sixteen_a : length a ≡ 16
-  pub sixteen_b : length b ≡ 16
-  pub sixteen : length most ≡ 16
-  pub done : (k : ℕ) → k < j → get_or most k 0 ≡ greater (get_or a k 0) (get_or b k 0)
-  pub to_do : (k : ℕ) → j ≤ k → get_or most k 0 ≡ get_or a k 0
-
-pub greatest_all : (j : ℕ) (a b most : List ℕ) → 16 ≤ j → GreatestTo j a b most → most ≡ greatest_in a b
-greatest_all j a b most e h =
-    ext_get_or 0 most (greatest_in a b) (h.sixteen ∙ sym (greatest_length a b 16 h.sixteen_a h.sixteen_b))
-    (λ k l. h.done k (omega (arith, h.sixteen)) ∙ sym (greatest_at a b k))
+  -- and v is 0 from there on, as is what lies past the array's end
+  pub made : ((j : ℕ) → n ≤ j → v j ≡ 0) → IsFromFnResult g f ys n → vector_of ys ≡ v
+  made beyond h =
+      fun_ext (λ j.
+      elim (cases_lt j n) [
+        | inl l ↦ let at : 0 + j ≡ j = omega arith in rw at at (made_from 0 n j (omega arith) h.each l)
+        | inr l ↦ get_or_past ys j 0 (omega (arith, h.long)) ∙ sym (beyond j l)
+      ])

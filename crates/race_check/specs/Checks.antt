@@ -9,7 +9,7 @@ use Rattle.race_check.specs.declared.state.Check.{Check}
 use Rattle.race_check.specs.States.{tables_of, Led}
 
 abbrev pub check_of : Check → Tables
-check_of c = tables_of c.progress c.clocks (vec_items c.writes) (vec_items c.reads)
+check_of c = tables_of c.places c.verdict c.clocks (vec_items c.words)
 
 -- an event that names what is not there is refused by 1, one too many by 8
 abbrev pub accepted : ℕ → Event → Result (Unit {0}) Refusal

@@ -1,6 +1,7 @@
 -- A whole trace fed to the check, and what it answers. Assumes nothing.
-use Rattle.std.specs.Prelude.{◌≡◌, List, [], ◌∷◌, length, Ok, Err, Result}
+use Rattle.std.specs.Prelude.{◌≡◌, ℕ, codes, List, [], ◌∷◌, length, Ok, Err, Result}
 use Rattle.basics.specs.declared.Refusal.{Refusal}
+use Rattle.basics.specs.Refusals.{in_words}
 use Rattle.trace.specs.declared.Event.{Event}
 use Rattle.trace.specs.declared.Verdict.{Verdict}
 use Rattle.vectors.specs.Laws.{Judged}
@@ -26,3 +27,8 @@ Checked (Err (Refused why)) (Ok es) = ⊥
 Checked (Err (Refused why)) (Err w) = why ≡ w
 Checked (Err Memory) (Ok es) = Unit {0}
 Checked (Err Memory) (Err w) = Unit {0}
+
+-- what programs print of it
+abbrev pub unchecked_words : Unchecked → List ℕ
+unchecked_words (Refused why) = in_words why
+unchecked_words Memory = codes "out of memory"

@@ -1,9 +1,15 @@
 // The vectors of all stations and locks. A vector has for each station a count of its events.
-ghost use Rattle.std.specs.Prelude.{◌≡◌, suc, ◌<◌, length, slice_index, slice_set};
-ghost use Rattle.race_check.specs.Kept.{no_clocks, counted_in, greatest_in, own_of, lock_of, accessed, acquired, released, OwnWhole, LockWhole};
+ghost use Rattle.std.specs.Prelude.{◌≡◌, true, ◌<◌};
+ghost use Rattle.trace.specs.Events.{by, is_known};
+ghost use Rattle.vectors.specs.Check.{before, clocks_with, empty, greatest, up_to};
+ghost use Rattle.race_check.specs.Rows.{vector_of};
+ghost use Rattle.race_check.specs.States.{clocks_of};
+
+use std::array;
+use trace::Event;
 
 // Of each station how many events of each station come before its next; of each lock the greatest of the vectors of all its releases so far.
-#[derive(Clone, Copy)]
+#[derive(Debug, PartialEq, Eq, Drop)]
 pub struct VectorClocks {
     pub stations: [[u32; 16]; 16],
     pub locks: [[u32; 16]; 64],
@@ -11,8 +17,9 @@ pub struct VectorClocks {
 
 impl VectorClocks {
     // Nothing has happened yet.
+    #[tactic(auto, using(crate::proofs::Starting::clocks_start))]
     pub fn new() -> VectorClocks
-        ensures { result ≡ no_clocks }
+        ensures { clocks_of result ≡ empty.clocks }
     {
         VectorClocks {
             stations: [[0; 16]; 16],
@@ -20,88 +27,52 @@ impl VectorClocks {
         }
     }
 
-    // The vector of a station: how many events of each come before its next.
-    pub fn of(&self, station: u8) -> [u32; 16]
-        requires known { station < 16 }
-        ensures { result ≡ own_of self.now station }
+    // What comes before an event: what its station knew, and for an acquire what the releases of the lock knew.
+    pub fn before(&self, event: Event) -> [u32; 16]
+        requires { is_known event ≡ true }
+        ensures { vector_of result ≡ before (clocks_of self.now) event }
     {
-        self.stations[station as usize]
+        let own = self.stations[station_of(event)];
+        if let Event::Acquire { lock, .. } = event {
+            greatest(own, self.locks[lock as usize])
+        } else {
+            own
+        }
     }
 
-    // The greatest of the vectors of all releases of a lock.
-    fn of_lock(&self, lock: u8) -> [u32; 16]
-        requires known { lock < 64 }
-        ensures { result ≡ lock_of self.now lock }
+    // One event more; gives its station's count, this event counted.
+    pub fn step(&mut self, event: Event) -> u32
+        requires known { is_known event ≡ true }
+        requires room { before (clocks_of self.old) event (by event) < 4294967295 }
+        ensures clocks { clocks_of self.new ≡ clocks_with (clocks_of self.old) event }
+        ensures count { result ≡ up_to (clocks_of self.old) event (by event) }
     {
-        self.locks[lock as usize]
+        let station = station_of(event);
+        let mut after = self.before(event);
+        after[station] += 1;
+        self.stations[station] = after;
+        if let Event::Release { lock, .. } = event {
+            self.locks[lock as usize] = greatest(self.locks[lock as usize], after);
+        }
+        self.stations[station][station]
     }
+}
 
-    // An event that neither acquires nor releases; gives its station's count.
-    pub fn access(&mut self, station: u8) -> u32
-        requires known { station < 16 }
-        requires room { slice_index (own_of self.old station) station < 4294967295 }
-        ensures clocks { self.new ≡ accessed self.old station }
-        ensures count { result ≡ suc (slice_index (own_of self.old station) station) }
-        ensures whole { OwnWhole self.old station }
-    {
-        let own = counted(self.of(station), station);
-        store(&mut self.stations, station, own);
-        own[station as usize]
-    }
-
-    pub fn acquire(&mut self, station: u8, lock: u8)
-        requires known { station < 16 }
-        requires lock { lock < 64 }
-        requires room { slice_index (greatest_in (own_of self.old station) (lock_of self.old lock)) station < 4294967295 }
-        ensures clocks { self.new ≡ acquired self.old station lock }
-        ensures whole { OwnWhole self.old station × LockWhole self.old lock }
-    {
-        let joined = greatest(self.of(station), self.of_lock(lock));
-        store(&mut self.stations, station, counted(joined, station));
-    }
-
-    pub fn release(&mut self, station: u8, lock: u8)
-        requires known { station < 16 }
-        requires lock { lock < 64 }
-        requires room { slice_index (own_of self.old station) station < 4294967295 }
-        ensures clocks { self.new ≡ released self.old station lock }
-        ensures whole { OwnWhole self.old station × LockWhole self.old lock }
-    {
-        let after = counted(self.of(station), station);
-        let greatest = greatest(self.of_lock(lock), after);
-        store(&mut self.stations, station, after);
-        store(&mut self.locks, lock, greatest);
+// The station whose event it is, as an index.
+fn station_of(event: Event) -> usize
+    ensures { result ≡ by event }
+{
+    match event {
+        Event::Read { station, .. }
+        | Event::Write { station, .. }
+        | Event::Acquire { station, .. }
+        | Event::Release { station, .. } => station as usize,
     }
 }
 
 // Station by station the greater count.
 fn greatest(a: [u32; 16], b: [u32; 16]) -> [u32; 16]
-    ensures { result ≡ greatest_in a b }
+    ensures { vector_of result ≡ greatest (vector_of a) (vector_of b) }
 {
-    let mut most = a;
-    for j in 0..16 {
-        if most[j] < b[j] {
-            most[j] = b[j];
-        }
-    }
-    most
-}
-
-// One event more of a station.
-fn counted(v: [u32; 16], station: u8) -> [u32; 16]
-    requires known { station < 16 }
-    requires room { slice_index v station < 4294967295 }
-    ensures { result ≡ counted_in v station }
-{
-    let mut after = v;
-    after[station as usize] += 1;
-    after
-}
-
-// One vector of a table replaced.
-fn store(vectors: &mut [[u32; 16]], at: u8, v: [u32; 16])
-    requires { at < length vectors.old }
-    ensures { vectors.new ≡ slice_set vectors.old at v }
-{
-    vectors[at as usize] = v;
+    array::from_fn(|j| a[j].max(b[j]))
 }

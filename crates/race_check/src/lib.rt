@@ -1,10 +1,10 @@
 // The check of a trace, event by event: is it race-free, and was there one memory?
 #![tactic(auto)]
 
-mod accesses;
 mod clocks;
-mod progress;
+mod history;
 mod state;
+mod verdicts;
 mod whole;
 
 pub use state::Check;

@@ -3,22 +3,21 @@ ghost use Rattle.std.specs.Prelude.{◌≡◌, vec_len};
 ghost use Rattle.race_check.specs.States.{tables_of, Reached};
 
 use crate::clocks::VectorClocks;
-use crate::progress::Progress;
-use vectors::{Access, LastWrite};
+use crate::history::WordHistory;
+use trace::Verdict;
 
 mod answers;
 mod feed;
 mod start;
 
-// How far it is, the vectors, and of each word the last write and each station's last read.
+// How many events there were, what was found, the vectors, and what happened to each word.
 // Nothing but the events that it was fed led to this state.
 #[derive(Drop)]
 pub struct Check {
-    progress: Progress,
+    places: u32,
+    verdict: Verdict,
     clocks: VectorClocks,
-    writes: Vec<LastWrite>,
-    reads: Vec<[Access; 16]>,
-    ghost all_writes: { vec_len writes ≡ 65536 },
-    ghost all_reads: { vec_len reads ≡ 65536 },
-    ghost reached: { Reached (tables_of progress clocks writes.items reads.items) },
+    words: Vec<WordHistory>,
+    ghost all_words: { vec_len words ≡ 65536 },
+    ghost reached: { Reached (tables_of places verdict clocks words.items) },
 }

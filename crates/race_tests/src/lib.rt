@@ -6,7 +6,7 @@ mod tests {
     use basics::Refusal;
     use race_check::{Check, Unchecked, check as check_trace};
     use std::test::Fail;
-    use trace::{Event, Verdict, decode, encode};
+    use trace::{Event, decode, encode};
 
     fn read(station: u8, value: u32) -> Event {
         Event::Read {
@@ -38,14 +38,10 @@ mod tests {
         events: &[Event],
     ) -> Result<(Option<(u32, u32)>, Option<u32>), Unchecked> {
         let verdict = check_trace(rt.alloc(), events)?;
-        Ok((race_of(verdict), verdict.stale))
-    }
-
-    fn race_of(verdict: Verdict) -> Option<(u32, u32)> {
-        match verdict.race {
-            Some(race) => Some((race.earlier.place, race.later.place)),
-            None => None,
-        }
+        let race = verdict
+            .race
+            .map(|race| (race.earlier.place, race.later.place));
+        Ok((race, verdict.stale))
     }
 
     #[test]
@@ -155,27 +151,25 @@ mod tests {
 
     #[test]
     fn bytes_that_are_no_event_are_refused(rt: HostRuntime) {
-        let refused = Err(Refusal::Malformed);
-        assert_eq!(rt;
-            decode(b"\x10\x01\x00\x00\x00\x05\x00\x00\x00\x00"),
-            refused
-        );
-        assert_eq!(rt;
-            decode(b"\x00\x05\x00\x00\x00\x05\x00\x00\x00\x00"),
-            refused
-        );
-        assert_eq!(rt;
-            decode(b"\x00\x01\x00\x01\x00\x00\x00\x00\x00\x00"),
-            refused
-        );
-        assert_eq!(rt;
-            decode(b"\x00\x03\x00\x00\x00\x40\x00\x00\x00\x00"),
-            refused
-        );
-        assert_eq!(rt;
-            decode(b"\x00\x03\x00\x00\x00\x01\x00\x00\x00\x01"),
-            refused
-        );
-        assert_eq!(rt; decode(b"\x00\x03\x00\x00\x00\x01\x00\x00\x00"), refused);
+        let no_events: [&[u8]; 6] = [
+            b"\x10\x01\x00\x00\x00\x05\x00\x00\x00\x00",
+            b"\x00\x05\x00\x00\x00\x05\x00\x00\x00\x00",
+            b"\x00\x01\x00\x01\x00\x00\x00\x00\x00\x00",
+            b"\x00\x03\x00\x00\x00\x40\x00\x00\x00\x00",
+            b"\x00\x03\x00\x00\x00\x01\x00\x00\x00\x01",
+            b"\x00\x03\x00\x00\x00\x01\x00\x00\x00",
+        ];
+        for bytes in no_events {
+            assert_eq!(rt; decode(bytes), Err(Refusal::Malformed));
+        }
+    }
+
+    #[test]
+    fn why_a_trace_was_not_checked_is_printed(rt: HostRuntime) -> Result<(), Fail> {
+        let refused = format!(in rt.alloc(); "{}", Unchecked::Refused(Refusal::CounterFull))?;
+        assert!(rt; refused.as_str() == "turned away 8");
+        let memory = format!(in rt.alloc(); "{}", Unchecked::Memory)?;
+        assert!(rt; memory.as_str() == "out of memory");
+        Ok(())
     }
 }

@@ -1,16 +1,15 @@
 // The check is fed one event after the other.
-ghost use Rattle.std.specs.Prelude.{◌≡◌, suc, ◌<◌, true, List, ◌∷◌, length, is_ok, if◌then◌else◌};
-ghost use Rattle.trace.specs.Events.{by, is_known};
-ghost use Rattle.vectors.specs.Check.{before, stepped};
+ghost use Rattle.std.specs.Prelude.{◌≡◌, ◌<◌, true, List, ◌∷◌, is_ok, if◌then◌else◌};
+ghost use Rattle.trace.specs.Events.{is_known};
+ghost use Rattle.vectors.specs.Check.{stepped};
 ghost use Rattle.race_check.specs.Checks.{check_of, accepted, Fed};
-ghost use Rattle.race_check.specs.States.{clocks_of, tables_of, Led, Writers};
+ghost use Rattle.race_check.specs.States.{Led};
 
-use crate::accesses::{read, write};
-use crate::clocks::VectorClocks;
-use crate::progress::Progress;
+use crate::history::later;
 use crate::state::Check;
+use crate::verdicts::{with_race, with_read};
 use basics::Refusal;
-use trace::Event;
+use trace::{Event, Placed};
 use vectors::{Access, LastWrite};
 
 impl Check {
@@ -24,74 +23,61 @@ impl Check {
         if !event.is_known() {
             return Err(Refusal::Malformed);
         }
-        if self.progress.places == u32::MAX {
+        if self.places == u32::MAX {
             return Err(Refusal::CounterFull);
         }
         self.feed(event);
         Ok(())
     }
 
+    // The event is known, and no counter is full.
+    #[tactic(auto, using(crate::proofs::Taken::writer_known))]
     fn feed(&mut self, event: Event)
         requires known { is_known event ≡ true }
         requires room { (check_of self.old).places < 4294967295 }
-        ensures tables { check_of self.new ≡ stepped (check_of self.old) event }
-        ensures fed { (es : List Event) → Led (check_of self.old) es → Led (check_of self.new) (event ∷ es) }
+        ensures { check_of self.new ≡ stepped (check_of self.old) event }
     {
-        self.progress = take_in(
-            self.progress,
-            &mut self.clocks,
-            self.writes.as_mut_slice(),
-            self.reads.as_mut_slice(),
-            event,
-        );
-    }
-}
-
-// One event more: what was found, and all tables, which are lent, as the check says. The event is known, and no counter is full.
-fn take_in(
-    progress: Progress,
-    clocks: &mut VectorClocks,
-    writes: &mut [LastWrite],
-    reads: &mut [[Access; 16]],
-    event: Event,
-) -> Progress
-    requires known { is_known event ≡ true }
-    requires all_writes { length writes.old ≡ 65536 }
-    requires all_reads { length reads.old ≡ 65536 }
-    requires writers { Writers writes.old }
-    requires room { progress.places < 4294967295 }
-    requires count { before (clocks_of clocks.old) event (by event) < 4294967295 }
-    ensures { tables_of result clocks.new writes.new reads.new ≡ stepped (tables_of progress clocks.old writes.old reads.old) event }
-{
-    match event {
-        Event::Read {
-            station,
-            word,
-            value,
-        } => read(progress, clocks, writes, reads, station, word, value),
-        Event::Write {
-            station,
-            word,
-            value,
-        } => write(progress, clocks, writes, reads, station, word, value),
-        Event::Acquire { station, lock } => {
-            clocks.acquire(station, lock);
-            one_more(progress)
+        let before = self.clocks.before(event);
+        let count = self.clocks.step(event);
+        let place = self.places + 1;
+        let placed = Placed { place, event };
+        self.places = place;
+        match event {
+            Event::Read {
+                station,
+                word,
+                value,
+            } => {
+                let history = &mut self.words[word as usize];
+                let earlier = history.unordered_write(before, word);
+                let last = history.write.access.value;
+                let verdict = with_race(self.verdict, earlier, placed);
+                self.verdict = with_read(verdict, value, last, place);
+                history.reads[station as usize] = Access {
+                    count,
+                    place,
+                    value,
+                };
+            }
+            Event::Write {
+                station,
+                word,
+                value,
+            } => {
+                let history = &mut self.words[word as usize];
+                let earlier = later(
+                    history.unordered_write(before, word),
+                    history.unordered_read(before, word),
+                );
+                self.verdict = with_race(self.verdict, earlier, placed);
+                let access = Access {
+                    count,
+                    place,
+                    value,
+                };
+                history.write = LastWrite { station, access };
+            }
+            Event::Acquire { .. } | Event::Release { .. } => {}
         }
-        Event::Release { station, lock } => {
-            clocks.release(station, lock);
-            one_more(progress)
-        }
-    }
-}
-
-// An event that nothing is held against.
-fn one_more(progress: Progress) -> Progress
-    requires { progress.places < 4294967295 }
-    ensures { result ≡ record { places = suc progress.places; verdict = progress.verdict } }
-{
-    Progress {
-        places: progress.places + 1,
-        verdict: progress.verdict,
     }
 }

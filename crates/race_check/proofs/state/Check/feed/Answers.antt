@@ -1,34 +1,56 @@
-use Rattle.std.proofs.Common.{◌∙◌}
+use Rattle.std.proofs.Common.{◌<◌, refl, ◌∙◌, rules, arith, add-one}
 use Rattle.race_check.specs.Checks.{check_of}
-use Rattle.race_check.proofs.Feeding.{writers, room_for_one, led_on, reached_on, refilled_step}
+use Rattle.race_check.proofs.Feeding.{room_for_one, reached_on}
+use Rattle.race_check.proofs.Taken.{read_taken, write_taken, other_taken}
 use Rattle.race_check.proofs.state.Check.feed.Goals as goal
 
-pub take_in-self-requires : goal.take_in-self-requires
-take_in-self-requires c =
-    let h = c.args.self.now in
-    record {
-      known = c.requires.known;
-      all_writes = c.as_mut_slice.ensures.len ∙ h.all_writes;
-      all_reads = c.as_mut_slice-2.ensures.len ∙ h.all_reads;
-      writers = λ w. rw c.as_mut_slice.ensures.value (writers (check_of h) h.reached w);
-      room = c.requires.room;
-      count = room_for_one (check_of h) h.reached c.args.event c.requires.room;
-    }
+pub step-count-requires-clause-room : goal.step-count-requires-clause-room
+step-count-requires-clause-room c = let t = c.args.self.now in room_for_one (check_of t) t.reached c.args.event c.requires.room
 
-pub invariant_of-self : goal.invariant_of-self
-invariant_of-self c =
-    let h = c.args.self.now in
-    let t = c.take_in-self in
-    let step =
-    refilled_step h.progress t.result h.clocks t.new.clocks h.writes h.reads _ t.new.writes _ t.new.reads c.args.event
-    c.as_mut_slice.ensures.value c.as_mut_slice-2.ensures.value (t.auto.writes ∙ c.as_mut_slice.ensures.len) (t.auto.reads ∙ c.as_mut_slice-2.ensures.len) t.ensures in
-    record { all_writes = h.all_writes; all_reads = h.all_reads; reached = reached_on _ _ c.args.event c.requires.known step h.reached }
+pub invariant_of-self-clause-reached : goal.invariant_of-self-clause-reached
+invariant_of-self-clause-reached c =
+    let i = c.in-Read in
+    let word : i.word < 65536 = search rules in
+    let station : i.station < 16 = search rules in
+    reached_on _ _ c.args.event c.requires.known
+    (read_taken c.args.self.now i.word c.index_mut-history.ensures.value word c.args.event c.before-before.result c.step-count.new.self (add-one _)
+    c.before-before.ensures c.step-count.ensures.clocks c.step-count.ensures.count i.station i.value i.is (omega arith)
+    (c.with_read-self.ensures ∙ rw (c.with_race-verdict.ensures, c.unordered_write-earlier.ensures) refl))
+    c.args.self.now.reached
 
-pub returns : goal.returns
-returns c =
-    let h = c.args.self.now in
-    let t = c.take_in-self in
-    let step =
-    refilled_step h.progress t.result h.clocks t.new.clocks h.writes h.reads _ t.new.writes _ t.new.reads c.args.event
-    c.as_mut_slice.ensures.value c.as_mut_slice-2.ensures.value (t.auto.writes ∙ c.as_mut_slice.ensures.len) (t.auto.reads ∙ c.as_mut_slice-2.ensures.len) t.ensures in
-    record { tables = step; fed = led_on _ _ c.args.event c.requires.known step }
+pub returns-in-Read : goal.returns-in-Read
+returns-in-Read c =
+    let i = c.in-Read in
+    let word : i.word < 65536 = search rules in
+    let station : i.station < 16 = search rules in
+    read_taken c.args.self.now i.word c.index_mut-history.ensures.value word c.args.event c.before-before.result c.step-count.new.self (add-one _)
+    c.before-before.ensures c.step-count.ensures.clocks c.step-count.ensures.count i.station i.value i.is (omega arith)
+    (c.with_read-self.ensures ∙ rw (c.with_race-verdict.ensures, c.unordered_write-earlier.ensures) refl)
+
+pub invariant_of-self-in-Write-clause-reached : goal.invariant_of-self-in-Write-clause-reached
+invariant_of-self-in-Write-clause-reached c =
+    let i = c.in-Write in
+    let word : i.word < 65536 = search rules in
+    reached_on _ _ c.args.event c.requires.known
+    (write_taken c.args.self.now i.word c.index_mut-history-in-Write.ensures.value word c.args.event c.before-before.result c.step-count.new.self (add-one _)
+    c.before-before.ensures c.step-count.ensures.clocks c.step-count.ensures.count i.station i.value i.is
+    (c.with_race-self.ensures ∙ rw (c.later-earlier.ensures, c.unordered_write.ensures, c.unordered_read.ensures) refl))
+    c.args.self.now.reached
+
+pub returns-in-Write : goal.returns-in-Write
+returns-in-Write c =
+    let i = c.in-Write in
+    let word : i.word < 65536 = search rules in
+    write_taken c.args.self.now i.word c.index_mut-history-in-Write.ensures.value word c.args.event c.before-before.result c.step-count.new.self (add-one _)
+    c.before-before.ensures c.step-count.ensures.clocks c.step-count.ensures.count i.station i.value i.is
+    (c.with_race-self.ensures ∙ rw (c.later-earlier.ensures, c.unordered_write.ensures, c.unordered_read.ensures) refl)
+
+pub invariant_of-self-in-Acquire-clause-reached : goal.invariant_of-self-in-Acquire-clause-reached
+invariant_of-self-in-Acquire-clause-reached c =
+    reached_on _ _ c.args.event c.requires.known
+    (other_taken c.args.self.now c.args.event c.step-count.new.self (add-one _) c.step-count.ensures.clocks c.in-Acquire.is)
+    c.args.self.now.reached
+
+pub returns-in-Acquire : goal.returns-in-Acquire
+returns-in-Acquire c =
+    other_taken c.args.self.now c.args.event c.step-count.new.self (add-one _) c.step-count.ensures.clocks c.in-Acquire.is
