@@ -3,7 +3,7 @@
 #![tactic(auto)]
 
 // A message between a station and the home. Each names the station, whichever way it goes.
-#[derive(Clone, Copy)]
+#[derive(Clone, Copy, Debug, PartialEq, Eq)]
 pub enum Message {
     PageRequest {
         station: u8,
@@ -50,14 +50,14 @@ pub enum Message {
 }
 
 // Who holds a lock: a station, by the number of the request that it was granted.
-#[derive(Clone, Copy)]
+#[derive(Clone, Copy, Debug, PartialEq, Eq)]
 pub struct Holder {
     pub station: u8,
     pub number: u32,
 }
 
 // A lock request that has not been granted yet.
-#[derive(Clone, Copy)]
+#[derive(Clone, Copy, Debug, PartialEq, Eq)]
 pub struct Waiter {
     pub station: u8,
     pub lock: u8,
@@ -65,7 +65,7 @@ pub struct Waiter {
 }
 
 // What the program of a station asks of it.
-#[derive(Clone, Copy)]
+#[derive(Clone, Copy, Debug, PartialEq, Eq)]
 pub enum Call {
     ReadWord { word: u32 },
     WriteWord { word: u32, value: u32 },
@@ -76,24 +76,22 @@ pub enum Call {
 }
 
 // What a station waits for, with the number of its request.
-#[derive(Clone, Copy)]
+#[derive(Clone, Copy, Debug, PartialEq, Eq)]
 pub enum Awaited {
-    Nothing,
     Page { page: u16, number: u32 },
     Lock { lock: u8, number: u32 },
 }
 
-// What a lock is to a station, with the number of the request by which it was granted.
-#[derive(Clone, Copy)]
+// What a lock that a station was granted is to it, with the number of the request by which it was granted.
+#[derive(Clone, Copy, Debug, PartialEq, Eq)]
 pub enum Holding {
-    NotHeld,
     Held { number: u32 },
     // released, and the home has not answered yet
     Unanswered { number: u32 },
 }
 
 // A station's counters: the number of its last page request, lock request and diff, and how many events it has had.
-#[derive(Clone, Copy)]
+#[derive(Clone, Copy, Debug, PartialEq, Eq)]
 pub struct Counters {
     pub fetches: u32,
     pub acquires: u32,
@@ -101,14 +99,11 @@ pub struct Counters {
     pub events: u32,
 }
 
-// A station without its pages and locks: who it is, its counters, the highest diff number that was acknowledged, and what it waits for.
-#[derive(Clone, Copy)]
+// A station without its pages and locks: who it is, its counters, the highest diff number that was acknowledged, and what it waits for, if anything.
+#[derive(Clone, Copy, Debug, PartialEq, Eq)]
 pub struct Head {
     pub station: u8,
-    pub fetches: u32,
-    pub acquires: u32,
-    pub diffs: u32,
+    pub counters: Counters,
     pub acknowledged: u32,
-    pub events: u32,
-    pub awaits: Awaited,
+    pub awaits: Option<Awaited>,
 }

@@ -4,7 +4,7 @@ use Rattle.std.proofs.Common.{◌≡◌, ℕ, ◌+◌, ◌*◌, ◌<◌, List, [
 use Rattle.std.proofs.lemmas.List.{length-append, length-take-le, get_or-take, get_or_append_left}
 use Rattle.std.proofs.lemmas.Bool.{ne_eqb}
 use Rattle.model.specs.declared.Message.{Message}
-use Rattle.model.specs.declared.Message.TheVariants.{PageRequest, PageReply, Diff, DiffApplied, LockRequest, LockGranted, LockReleased, ReleaseTaken}
+use Rattle.model.specs.declared.Message.TheVariants.{PageReply, Diff}
 use Rattle.basics.specs.declared.Refusal.TheVariants.{Malformed}
 use Rattle.basics.specs.Numbers.{u8_at}
 use Rattle.model.specs.Bytes.{bytes_of, parse, read_kind}
@@ -16,27 +16,16 @@ abbrev Agree : List ℕ → List ℕ → Type 0
 Agree bs cs = (i : ℕ) → i < length bs → i < length cs → get_or bs i 0 ≡ get_or cs i 0
 
 some_bytes : (m : Message) → 0 < length (bytes_of m)
-some_bytes (PageRequest s p n) = omega arith
 some_bytes (PageReply s p n ws) = omega arith
-some_bytes (Diff s n p cs) = omega arith
-some_bytes (DiffApplied s n) = omega arith
-some_bytes (LockRequest s l n) = omega arith
-some_bytes (LockGranted s l n) = omega arith
-some_bytes (LockReleased s l n) = omega arith
-some_bytes (ReleaseTaken s l n) = omega arith
+some_bytes m = omega arith
 
 kind_refused :
     (m : Message) (bs : List ℕ) → InRange m → Agree bs (bytes_of m) → (length bs ≡ length (bytes_of m) → ⊥) →
     read_kind (u8_at (bytes_of m) 0) bs ≡ Err Malformed
-kind_refused (PageRequest s p n) bs h a d = rw (ne_eqb (length bs) 8 d)
 kind_refused (PageReply s p n ws) bs h a d = rw (ne_eqb (length bs) 264 (λ e. d (omega (arith, length_word_bytes ws))))
 kind_refused (Diff s n p cs) bs h a d =
     rw (ne_eqb (length bs) (9 + 5 * u8_at bs 8) (λ e. d (omega (arith, length_change_bytes 0 cs, a 8 (omega arith) (omega arith)))))
-kind_refused (DiffApplied s n) bs h a d = rw (ne_eqb (length bs) 6 d)
-kind_refused (LockRequest s l n) bs h a d = rw (ne_eqb (length bs) 7 d)
-kind_refused (LockGranted s l n) bs h a d = rw (ne_eqb (length bs) 7 d)
-kind_refused (LockReleased s l n) bs h a d = rw (ne_eqb (length bs) 7 d)
-kind_refused (ReleaseTaken s l n) bs h a d = rw (ne_eqb (length bs) 7 d)
+kind_refused m bs h a d = rw (ne_eqb (length bs) (length (bytes_of m)) d)
 
 refused : (m : Message) (bs : List ℕ) → InRange m → Agree bs (bytes_of m) → (length bs ≡ length (bytes_of m) → ⊥) → parse bs ≡ Err Malformed
 refused m [] h a d = refl

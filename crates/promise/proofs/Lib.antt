@@ -1,7 +1,7 @@
 pub mod Queue
+pub mod IfRead
 pub mod Ranges
 pub mod Refused
-pub mod Longer
 pub mod Steps
 pub mod Turns
 pub mod Line
@@ -17,7 +17,6 @@ pub mod Rows
 pub mod Rising
 pub mod Pages
 pub mod StationSteps
-pub mod StationTold
 pub mod StationSound
 pub mod Installing
 pub mod Lowest

@@ -1,6 +1,5 @@
 -- Those who wait for one lock, in their order: the first of them is whom the lock goes to, and the others stay as they are. Assumes nothing.
-use Rattle.std.proofs.Common.{◌≡◌, ℕ, List, [], ◌∷◌, ◌++◌, Some, None, sym, refl, arith}
-use Rattle.std.proofs.lemmas.List.{flat_map_more}
+use Rattle.std.proofs.Common.{◌≡◌, ℕ, List, [], ◌∷◌, Some, None, refl, arith}
 use Rattle.std.proofs.lemmas.Bool.Decides.{nat_tests}
 use Rattle.std.specs.List.{flat_map}
 use Rattle.model.specs.declared.Holder.{Holder}
@@ -10,9 +9,6 @@ use Rattle.promise.specs.History.{on_lock}
 
 abbrev pub waiting_for : ℕ → List Waiter → List Holder
 waiting_for l ws = flat_map (λ w. on_lock l w.lock w.station w.number) ws
-
-pub waiting_push : (l : ℕ) (ws : List Waiter) (w : Waiter) → waiting_for l (ws ++ (w ∷ [])) ≡ waiting_for l ws ++ on_lock l w.lock w.station w.number
-waiting_push l ws w = sym (flat_map_more (λ v. on_lock l v.lock v.station v.number) [] ws w)
 
 pub first_none : (l : ℕ) (ws : List Waiter) → first_for l ws ≡ None → waiting_for l ws ≡ []
 first_none l [] e = refl

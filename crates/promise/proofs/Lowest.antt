@@ -6,9 +6,9 @@ use Rattle.std.proofs.lemmas.Bool.{both_ways, and_parts, leb-true, cond_both}
 use Rattle.basics.specs.declared.Refusal.{Refusal}
 use Rattle.basics.specs.Refusals.{number_of}
 use Rattle.model.specs.declared.Message.{Message}
-use Rattle.model.specs.declared.Message.TheVariants.{PageRequest, PageReply, Diff, DiffApplied, LockRequest, LockGranted, LockReleased, ReleaseTaken}
+use Rattle.model.specs.declared.Message.TheVariants.{PageReply}
 use Rattle.model.specs.declared.Call.{Call}
-use Rattle.model.specs.declared.Call.TheVariants.{ReadWord, WriteWord, Ask, Tell, Take, Free}
+use Rattle.model.specs.declared.Call.TheVariants.{Tell}
 use Rattle.model.specs.Outcomes.{Outcome, Row, refused, unless}
 use Rattle.model.specs.Station.{StationState, call_refusals, message_refusals, does, takes_in}
 use Rattle.promise.specs.Station.{Lowest, AlwaysLowest}
@@ -19,35 +19,29 @@ abbrev in_order : ℕ → List Row → Bool
 in_order least [] = true
 in_order least (row ∷ rows) = leb least (number_of row.why) && in_order (number_of row.why) rows
 
+-- what holds of the first row and of all behind it holds of each
+each_row : (P : Row → Type 0) {x : Row} {rows : List Row} → P x → ((row : Row) → Memᴰ row rows → P row) → (row : Row) → Memᴰ row (x ∷ rows) → P row
+each_row P first behind row (Memᴰ.head h) = rw h first
+each_row P first behind row (Memᴰ.tail h) = behind row h
+
 -- where the numbers rise, none is below the least
 order_least : (least : ℕ) (rows : List Row) → in_order least rows ≡ true → (row : Row) → Memᴰ row rows → least ≤ number_of row.why
-order_least least [] e row h = absurd (Memᴰ.not-nil h)
-order_least least (x ∷ rows) e row (Memᴰ.head h) =
-    let b = and_parts (leb least (number_of x.why)) _ e in rw h (leb-true least _ b.0)
-order_least least (x ∷ rows) e row (Memᴰ.tail h) =
+order_least least [] e = λ row h. absurd (Memᴰ.not-nil h)
+order_least least (x ∷ rows) e =
     let b = and_parts (leb least (number_of x.why)) _ e in
-    omega (arith, leb-true least _ b.0, order_least (number_of x.why) rows b.1 row h)
+    let first = leb-true least _ b.0 in
+    each_row (λ y. least ≤ number_of y.why) first (λ row h. omega (arith, order_least (number_of x.why) rows b.1 row h))
 
 -- a first row that applies is the lowest
 lowest_here : (x : Row) (rows : List Row) → in_order (number_of x.why) rows ≡ true → x.applies ≡ true → Lowest (x ∷ rows) (Some x.why)
-lowest_here x rows e here = ((x, Memᴰ.head refl, here, refl), least)
-  where
-    least : (row : Row) → Memᴰ row (x ∷ rows) → row.applies ≡ true → number_of x.why ≤ number_of row.why
-    least row (Memᴰ.head h) applies = rw h (omega arith)
-    least row (Memᴰ.tail h) applies = order_least (number_of x.why) rows e row h
+lowest_here x rows e here =
+    ((x, Memᴰ.head refl, here, refl), each_row (λ y. y.applies ≡ true → number_of x.why ≤ number_of y.why) (λ _. omega arith) (λ row h _. order_least (number_of x.why) rows e row h))
 
 -- a first row that does not apply changes nothing
 lowest_behind : (x : Row) (rows : List Row) (o : Option Refusal) → x.applies ≡ false → Lowest rows o → Lowest (x ∷ rows) o
-lowest_behind x rows None off k = none
-  where
-    none : (row : Row) → Memᴰ row (x ∷ rows) → row.applies ≡ false
-    none row (Memᴰ.head h) = rw h off
-    none row (Memᴰ.tail h) = k row h
-lowest_behind x rows (Some why) off k = ((k.0.0, Memᴰ.tail k.0.1, k.0.2, k.0.3), least)
-  where
-    least : (row : Row) → Memᴰ row (x ∷ rows) → row.applies ≡ true → number_of why ≤ number_of row.why
-    least row (Memᴰ.head h) applies = absurd (both_ways _ off (rw h at applies))
-    least row (Memᴰ.tail h) applies = k.1 row h applies
+lowest_behind x rows None off k = each_row (λ y. y.applies ≡ false) off k
+lowest_behind x rows (Some why) off k =
+    ((k.0.0, Memᴰ.tail k.0.1, k.0.2, k.0.3), each_row (λ y. y.applies ≡ true → number_of why ≤ number_of y.why) (λ on. absurd (both_ways _ off on)) k.1)
 
 module _ {S : Type 0} (s : S) (r : Outcome S) (none : r.refusal ≡ None) where
   -- the first row that applies is the lowest that does
@@ -60,22 +54,12 @@ module _ {S : Type 0} (s : S) (r : Outcome S) (none : r.refusal ≡ None) where
 
 -- THE TABLES have their refusals in rising order.
 call_order : (s : StationState) (c : Call) → in_order 1 (call_refusals s c) ≡ true
-call_order s (ReadWord w) = refl
-call_order s (WriteWord w v) = refl
-call_order s (Ask p) = refl
 call_order s (Tell p) = refl
-call_order s (Take l) = refl
-call_order s (Free l) = refl
+call_order s c = refl
 
 message_order : (s : StationState) (m : Message) → in_order 1 (message_refusals s m) ≡ true
-message_order s (PageRequest t p n) = refl
 message_order s (PageReply t p n ws) = refl
-message_order s (Diff t n p cs) = refl
-message_order s (DiffApplied t n) = refl
-message_order s (LockRequest t l n) = refl
-message_order s (LockGranted t l n) = refl
-message_order s (LockReleased t l n) = refl
-message_order s (ReleaseTaken t l n) = refl
+message_order s m = refl
 
 pub lowest_given : AlwaysLowest
 lowest_given s =

@@ -1,7 +1,6 @@
 -- The queue of those who wait: each of the sixteen stations stands in it at most once, so at most sixteen wait,
 -- and there is room for a station that does not wait yet. Assumes nothing.
-use Rattle.std.proofs.Common.{◌≡◌, ℕ, zero, suc, ◌+◌, ◌<◌, ◌≤◌, false, cond, T, eqb, ltb, List, [], ◌∷◌, ◌++◌, length, is_some, None, refl, ◌∙◌, arith}
-use Rattle.std.proofs.lemmas.Bool.{cond_both}
+use Rattle.std.proofs.Common.{◌≡◌, ℕ, zero, suc, ◌+◌, ◌<◌, ◌≤◌, false, cond, T, eqb, ltb, List, [], ◌∷◌, ◌++◌, length, is_some, None, refl, arith}
 use Rattle.std.proofs.lemmas.Bool.Decides.{nat_tests}
 use Rattle.model.specs.declared.Waiter.{Waiter}
 use Rattle.model.specs.Locks.{waits_with, without_first}
@@ -24,25 +23,12 @@ unfolding waiting_below
 below_more zero w ws none = grind (arith, nat_tests)
 below_more (suc n) w ws none = let e = below_more n w ws none in grind (arith, nat_tests)
 
--- the first stands apart from the rest
-pub record Apart (w : Waiter) (ws : List Waiter) : Type 0 where
-  pub station : w.station < 16
-  pub once : waits_with w.station ws ≡ None
-  pub rest : T (apart ws)
-
-pub apart_first : (w : Waiter) (ws : List Waiter) → T (apart (w ∷ ws)) → Apart w ws
-apart_first w ws h = record { station = grind (arith, nat_tests); once = grind (arith, nat_tests); rest = grind (arith, nat_tests) }
-
 pub apart_cons : (w : Waiter) (ws : List Waiter) → T (apart ws) → w.station < 16 → waits_with w.station ws ≡ None → T (apart (w ∷ ws))
 apart_cons w ws h small none = grind (arith, nat_tests)
 
 apart_below : (ws : List Waiter) → T (apart ws) → length ws ≤ waiting_below 16 ws
 apart_below [] h = omega arith
-apart_below (w ∷ ws) h =
-    let a = apart_first w ws h in
-    let e = apart_below ws a.rest in
-    let m = below_more 16 w ws a.once in
-    grind (arith, nat_tests)
+apart_below (w ∷ ws) h = let e = apart_below ws in let m = below_more 16 w ws in grind (arith, nat_tests)
 
 -- at most sixteen wait
 pub apart_few : (ws : List Waiter) → T (apart ws) → length ws ≤ 16
@@ -63,10 +49,7 @@ waits_push (v ∷ ws) w s e = let h = waits_push ws w s e in cc
 pub apart_push : (ws : List Waiter) (w : Waiter) → T (apart ws) → w.station < 16 → waits_with w.station ws ≡ None → T (apart (ws ++ (w ∷ [])))
 apart_push [] w h small none = apart_cons w [] tt small refl
 apart_push (v ∷ ws) w h small none =
-    let a = apart_first v ws h in
-    let r : waits_with w.station ws ≡ None = grind (arith, nat_tests) in
-    let d : eqb w.station v.station ≡ false = grind (arith, nat_tests) in
-    apart_cons v _ (apart_push ws w a.rest small r) a.station (waits_push ws w v.station d ∙ a.once)
+    let others = waits_push ws w v.station in let rest = apart_push ws w in grind (arith, nat_tests)
 
 -- who does not wait does not wait once another has left
 waits_without : (ws : List Waiter) (l s : ℕ) → waits_with s ws ≡ None → waits_with s (without_first l ws) ≡ None
@@ -77,6 +60,4 @@ waits_without (w ∷ ws) l s none = let f = waits_without ws l s in grind (arith
 pub apart_without : (ws : List Waiter) (l : ℕ) → T (apart ws) → T (apart (without_first l ws))
 apart_without [] l h = tt
 apart_without (w ∷ ws) l h =
-    let a = apart_first w ws h in
-    cond_both (eqb w.lock l) ws (w ∷ without_first l ws) (λ q. T (apart q)) (λ _. a.rest)
-    (λ _. apart_cons w _ (apart_without ws l a.rest) a.station (waits_without ws l w.station a.once))
+    let others = waits_without ws l w.station in let rest = apart_without ws l in grind (arith, nat_tests)

@@ -1,11 +1,10 @@
 -- A refused message leaves the home as it was. Assumes nothing.
-use Rattle.std.proofs.Common.{◌≡◌, ℕ, Some, Ok, Err, Result, refl, arith}
+use Rattle.std.proofs.Common.{◌≡◌, Some, Ok, Err, Result, refl, arith}
 use Rattle.model.specs.declared.Message.{Message}
-use Rattle.model.specs.declared.Message.TheVariants.{PageRequest, PageReply, Diff, DiffApplied, LockRequest, LockGranted, LockReleased, ReleaseTaken}
+use Rattle.model.specs.declared.Message.TheVariants.{Diff, LockRequest, LockReleased}
 use Rattle.basics.specs.declared.Refusal.{Refusal}
 use Rattle.model.specs.Bytes.{parse}
 use Rattle.model.specs.Home.{HomeState, hears, hears_read}
-use Rattle.model.specs.Locks.{LockTable, requests, releases}
 use Rattle.model.specs.Replies.{Reply}
 use Rattle.promise.specs.Home.{RefusedKeeps}
 
@@ -13,21 +12,11 @@ use Rattle.promise.specs.Home.{RefusedKeeps}
 abbrev Stays : {S : Type 0} → S → Reply S → Type 0
 Stays s r = (why : Refusal) → r.refusal ≡ Some why → r.after ≡ s
 
-requests_stay : (t : LockTable) (s l n : ℕ) → Stays t (requests t s l n)
-requests_stay t s l n why e = grind arith
-
-releases_stay : (t : LockTable) (s l n : ℕ) → Stays t (releases t s l n)
-releases_stay t s l n why e = grind arith
-
 hears_stays : (h : HomeState) (m : Message) → Stays h (hears h m)
-hears_stays h (PageRequest s p n) why e = refl
-hears_stays h (PageReply s p n ws) why e = refl
 hears_stays h (Diff s n p cs) why e = grind arith
-hears_stays h (DiffApplied s n) why e = refl
-hears_stays h (LockRequest s l n) why e = rw (requests_stay h.locks s l n why e)
-hears_stays h (LockGranted s l n) why e = refl
-hears_stays h (LockReleased s l n) why e = rw (releases_stay h.locks s l n why e)
-hears_stays h (ReleaseTaken s l n) why e = refl
+hears_stays h (LockRequest s l n) why e = grind arith
+hears_stays h (LockReleased s l n) why e = grind arith
+hears_stays h m why e = refl
 
 read_stays : (h : HomeState) (r : Result Message Refusal) → Stays h (hears_read h r)
 read_stays h (Ok m) why e = hears_stays h m why e

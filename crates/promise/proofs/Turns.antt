@@ -1,7 +1,7 @@
 -- One lock's turns, on the lists of its requests, releases and grants alone: what each step does to them, and that the grants
 -- go in turn. Assumes nothing.
-use Rattle.std.proofs.Common.{◌≡◌, ◌+◌, min, List, [], ◌∷◌, ◌++◌, length, take, Some, None, Option, sym, refl, ap, arith}
-use Rattle.std.proofs.lemmas.List.{append-nil, append_assoc, length-append, take_at}
+use Rattle.std.proofs.Common.{◌≡◌, ◌+◌, min, List, [], ◌++◌, length, take, Some, None, Option, sym, refl, ap, arith}
+use Rattle.std.proofs.lemmas.List.{length-append, take_at}
 use Rattle.std.specs.Option.{option_to_list}
 use Rattle.model.specs.declared.Holder.{Holder}
 
@@ -14,37 +14,11 @@ pub record Turn (asked back grants : List Holder) (holder : Option Holder) (queu
   -- nobody waits for a lock that nobody holds
   pub idle : holder ≡ None → queue ≡ []
 
-module _ {asked back grants queue : List Holder} where
-  -- a free lock is granted at once
-  pub turn_granted : (x : Holder) → Turn asked back grants None queue → Turn (asked ++ (x ∷ [])) (back ++ []) (grants ++ (x ∷ [])) (Some x) queue
-  turn_granted x t =
-      record {
-        one = ap (λ g. g ++ (x ∷ [])) t.one;
-        line = rw (t.line, t.idle refl) (simp append-nil);
-        idle = λ e. cc;
-      }
-
-  -- who asks for a lock that is held waits behind the others
-  pub turn_queued : (y x : Holder) → Turn asked back grants (Some y) queue → Turn (asked ++ (x ∷ [])) (back ++ []) (grants ++ []) (Some y) (queue ++ (x ∷ []))
-  turn_queued y x t = record { one = simp append-nil t.one; line = rw t.line (simp (append-nil, append_assoc)); idle = λ e. cc }
-
-  -- the lock goes to the first that waits
-  pub turn_passed : (y x : Holder) → Turn asked back grants (Some y) (x ∷ queue) → Turn (asked ++ []) (back ++ (y ∷ [])) (grants ++ (x ∷ [])) (Some x) queue
-  turn_passed y x t =
-      record { one = ap (λ g. g ++ (x ∷ [])) t.one; line = rw t.line (simp (append-nil, append_assoc)); idle = λ e. cc }
-
-  -- and nothing else changes it
-  pub turn_same : {o : Option Holder} → Turn asked back grants o queue → Turn (asked ++ []) (back ++ []) (grants ++ []) o queue
-  turn_same t = simp append-nil t
-
-  -- The grants are the beginning of the requests, as many as there are requests and one more than there are releases.
-  pub turn_taken : {o : Option Holder} → Turn asked back grants o queue → grants ≡ take (min (length asked) (length back + 1)) asked
-  turn_taken {o} t = rw t.line (sym (take_at grants queue _ (many o t)))
-    where
-      many : (v : Option Holder) → Turn asked back grants v queue → length grants ≡ min (length (grants ++ queue)) (length back + 1)
-      many None r = omega (arith, length-append grants queue, simp length-append at (ap length r.one), ap length (r.idle refl))
-      many (Some y) r = omega (arith, length-append grants queue, simp length-append at (ap length r.one))
-
--- a lock that nobody waits for is free when it is given back
-pub turn_freed : {asked back grants : List Holder} (y : Holder) → Turn asked back grants (Some y) [] → Turn (asked ++ []) (back ++ (y ∷ [])) (grants ++ []) None []
-turn_freed y t = record { one = simp append-nil t.one; line = simp append-nil (simp append-nil at t.line); idle = λ e. refl }
+-- The grants are the beginning of the requests, as many as there are requests and one more than there are releases.
+pub turn_taken :
+    {asked back grants queue : List Holder} {o : Option Holder} → Turn asked back grants o queue → grants ≡ take (min (length asked) (length back + 1)) asked
+turn_taken {back = back} {grants} {queue} {o} t = rw t.line (sym (take_at grants queue _ (many o t.one t.idle)))
+  where
+    many : (v : Option Holder) → grants ≡ back ++ option_to_list v → (v ≡ None → queue ≡ []) → length grants ≡ min (length (grants ++ queue)) (length back + 1)
+    many None one idle = omega (arith, length-append grants queue, simp length-append at (ap length one), ap length (idle refl))
+    many (Some y) one idle = omega (arith, length-append grants queue, simp length-append at (ap length one))

@@ -16,19 +16,19 @@ unfolding word_bytes words_from
 words_back [] h = refl
 words_back (w ∷ ws) h = rw (word_back w h.0, words_back ws h.1)
 
-pub length_words : (n : ℕ) (bs : List ℕ) → length (words_from n bs) ≡ n
-unfolding words_from
-length_words zero bs = refl
-length_words (suc n) bs = ap suc (length_words n (drop 4 bs))
+-- what was read: as many words as were asked for, each in range, written as the bytes
+pub record Read (n : ℕ) (bs : List ℕ) : Type 0 where
+  pub many : length (words_from n bs) ≡ n
+  pub fit : All Word (words_from n bs)
+  pub written : length bs ≡ 4 * n → word_bytes (words_from n bs) ≡ bs
 
-pub words_fit : (n : ℕ) (bs : List ℕ) → Bytes bs → All Word (words_from n bs)
-unfolding words_from
-words_fit zero bs h = tt
-words_fit (suc n) bs h = (word_fits bs 0 h, words_fit n (drop 4 bs) (bytes_drop 4 bs h))
-
-pub words_written : (n : ℕ) (bs : List ℕ) → Bytes bs → length bs ≡ 4 * n → word_bytes (words_from n bs) ≡ bs
+pub words_read : (n : ℕ) (bs : List ℕ) → Bytes bs → Read n bs
 unfolding word_bytes words_from
-words_written zero bs h l = sym (nil_from_length bs (omega arith))
-words_written (suc n) bs h l =
-    let rest = words_written n (drop 4 bs) (bytes_drop 4 bs h) (simp length-drop (omega arith)) in
-    rw rest (word_written bs 0 h (omega arith))
+words_read zero bs h = record { many = refl; fit = tt; written = λ l. sym (nil_from_length bs (omega arith)) }
+words_read (suc n) bs h =
+    let r = words_read n (drop 4 bs) (bytes_drop 4 bs h) in
+    record {
+      many = ap suc r.many;
+      fit = (word_fits bs 0 h, r.fit);
+      written = λ l. rw (r.written (simp length-drop (omega arith))) (word_written bs 0 h (omega arith));
+    }

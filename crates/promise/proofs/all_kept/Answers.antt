@@ -1,6 +1,5 @@
 use Rattle.promise.proofs.all_kept.Goals as goal
 use Rattle.promise.proofs.All.{all_kept}
 
--- src/lib.rt:12:1
 pub returns : goal.returns
 returns c = all_kept
