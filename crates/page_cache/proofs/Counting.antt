@@ -7,6 +7,7 @@ use Rattle.basics.specs.Sizes.{page_of, put}
 use Rattle.model.specs.Bytes.{change_count}
 use Rattle.model.specs.Cache.{is_in, change, changes_at, differing, are_clean}
 use Rattle.pages.proofs.Collecting.{count_few}
+use Rattle.pages.proofs.Ranges.{same_ranges}
 use Rattle.promise.specs.Station.{once}
 use Rattle.page_cache.specs.Slots.{differs, dirty_words}
 
@@ -20,14 +21,6 @@ unfolding change_count
 count_first None cs = omega arith
 count_first (Some v) cs = omega arith
 
--- the same changes at the same places
-same_map : {X : Type 0} (f g : ℕ → X) (a n : ℕ) → ((k : ℕ) → a ≤ k → k < a + n → f k ≡ g k) → map f (range_with_len a n) ≡ map g (range_with_len a n)
-same_map f g a zero h = refl
-same_map f g a (suc n) h =
-    let first = h a (omega arith) (omega arith) in
-    let rest = same_map f g (a + 1) n (λ k i j. h k (omega arith) (omega arith)) in
-    cc
-
 -- at one place another change
 module _ (f g : ℕ → Option ℕ) (j : ℕ) (else : (k : ℕ) → (k ≡ j → ⊥) → g k ≡ f k) where
   one_place : (a n : ℕ) → a ≤ j → j < a + n → change_count (map g (range_with_len a n)) + one (f j) ≡ change_count (map f (range_with_len a n)) + one (g j)
@@ -35,7 +28,7 @@ module _ (f g : ℕ → Option ℕ) (j : ℕ) (else : (k : ℕ) → (k ≡ j →
   one_place a (suc n) i h =
       elim (eqb_tells a j) [
         | inl t ↦
-            (let rest = ap change_count (same_map g f (a + 1) n (λ k u v. else k (λ e. omega (arith, t.1)))) in
+            (let rest = ap change_count (same_ranges g f (a + 1) (a + 1) n (λ k u. else (a + 1 + k) (λ e. omega (arith, t.1)))) in
             let here : one (g a) ≡ one (g j) = ap (λ x. one (g x)) t.1 in
             let was : one (f a) ≡ one (f j) = ap (λ x. one (f x)) t.1 in
             omega (arith, count_first (g a) (map g (range_with_len (a + 1) n)), count_first (f a) (map f (range_with_len (a + 1) n))))
@@ -59,8 +52,8 @@ pub same_changes :
     (q : ℕ) (copy twin copy' twin' : ℕ → ℕ) → ((w : ℕ) → page_of w ≡ q → copy' w ≡ copy w) → ((w : ℕ) → page_of w ≡ q → twin' w ≡ twin w) → changes_at q copy' twin' ≡ changes_at q copy twin
 unfolding changes_at
 same_changes q copy twin copy' twin' c t =
-    same_map (change copy' twin') (change copy twin) (64 * q) 64
-    (λ k i j. let here : k / 64 ≡ q = omega arith in rw (c k here, t k here))
+    same_ranges (change copy' twin') (change copy twin) (64 * q) (64 * q) 64
+    (λ k i. let here : (64 * q + k) / 64 ≡ q = omega arith in rw (c (64 * q + k) here, t (64 * q + k) here))
 
 pub few_differ : (p : ℕ) (copy twin : ℕ → ℕ) → differing p copy twin ≤ 64
 unfolding changes_at

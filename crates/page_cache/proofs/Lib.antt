@@ -3,4 +3,3 @@ pub mod Counting
 pub mod Viewing
 pub mod Writing
 pub mod Moving
-pub mod Clones

@@ -1,13 +1,13 @@
 -- What the slots hold after a word was written, a page flushed, or a page put into the next slot.
 use Rattle.std.proofs.Common.{◌≡◌, ℕ, ◌+◌, ◌*◌, ◌/◌, ◌%◌, ◌<◌, false, List, [], ◌∷◌, ◌++◌, length, set, Some, None, Option, sym, refl, ap, ◌∙◌, inl, inr, arith}
 use mathlib.Core.Path.{fun_ext}
-use Rattle.std.proofs.lemmas.List.FromFn.{length-map-range_with_len, get_or-map-range_with_len}
-use Rattle.std.proofs.lemmas.List.{same_lists, get_or-set_same, get_or-set_other}
+use Rattle.std.proofs.lemmas.List.{get_or-set_same, get_or-set_other}
 use Rattle.std.proofs.lemmas.Bool.{eq-eqb, ne_eqb}
 use Rattle.std.proofs.lemmas.Bool.Decides.{eqb_tells}
 use Rattle.basics.specs.Sizes.{page_of, place_of, put}
 use Rattle.model.specs.Cache.{is_in, change, changes_at, on_page, placed}
 use Rattle.pages.specs.Memory.{memory}
+use Rattle.pages.proofs.Ranges.{same_ranges}
 use Rattle.page_cache.specs.Slots.{slot_of, in_slot, seen}
 use Rattle.page_cache.proofs.SlotLaws.{slot_below, slot_apart, slot_push}
 
@@ -53,18 +53,11 @@ module _ (pages : List ℕ) (p k : ℕ) (e : slot_of p pages ≡ Some k) where
   pub seen_changes : (cs ts : List ℕ) → changes_at k (memory cs) (memory ts) ≡ changes_at p (seen pages cs) (seen pages ts)
   unfolding changes_at
   seen_changes cs ts =
-      let inner = change (memory cs) (memory ts) in
-      let outer = change (seen pages cs) (seen pages ts) in
-      same_lists _ _ (length-map-range_with_len inner (64 * k) 64 ∙ sym (length-map-range_with_len outer (64 * p) 64))
-      (λ j d h.
-      let below : j < 64 = omega (arith, length-map-range_with_len inner (64 * k) 64) in
-      get_or-map-range_with_len inner (64 * k) 64 j (64 * k + j) d below refl ∙ sym (get_or-map-range_with_len outer (64 * p) 64 j (64 * p + j) d below refl ∙ there j below))
-    where
-      there : (j : ℕ) → j < 64 → change (seen pages cs) (seen pages ts) (64 * p + j) ≡ change (memory cs) (memory ts) (64 * k + j)
-      there j h =
-          let page : (64 * p + j) / 64 ≡ p = omega arith in
-          let place : (64 * p + j) % 64 ≡ j = omega arith in
-          rw (page, place, e)
+      same_ranges (change (memory cs) (memory ts)) (change (seen pages cs) (seen pages ts)) (64 * k) (64 * p) 64
+      (λ j below.
+      let page : (64 * p + j) / 64 ≡ p = omega arith in
+      let place : (64 * p + j) % 64 ≡ j = omega arith in
+      rw (page, place, e))
 
   -- a word written
   module _ (w v : ℕ) (on : page_of w ≡ p) (cs : List ℕ) (inside : 64 * k + place_of w < length cs) where

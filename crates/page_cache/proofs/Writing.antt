@@ -1,44 +1,68 @@
 -- A word written into its slot: it was counted if it differed, and the count is right again.
-use Rattle.std.proofs.Common.{◌≡◌, ℕ, ◌+◌, ◌*◌, ◌/◌, ◌<◌, ◌≤◌, true, T, List, length, get_or, set, Some, sym, refl, ap, ◌∙◌, arith}
+use Rattle.std.proofs.Common.{◌≡◌, ℕ, ◌+◌, ◌-◌, ◌*◌, ◌/◌, ◌<◌, ◌≤◌, true, List, length, get_or, set, vec_items, Some, sym, refl, ap, ◌∙◌, arith}
+use Rattle.std.proofs.lemmas.List.{get_or-set_same}
 use Rattle.std.proofs.lemmas.Bool.Decides.{nat_tests}
 use Rattle.basics.specs.Sizes.{page_of, place_of, put}
-use Rattle.model.specs.Cache.{is_in}
-use Rattle.promise.specs.Station.{once}
-use Rattle.page_cache.specs.Slots.{slot_of, seen, differs, dirty_words}
-use Rattle.page_cache.proofs.SlotLaws.{is_in_slot}
+use Rattle.model.specs.Cache.{is_in, wrote}
+use Rattle.pages.specs.Memory.{memory}
+use Rattle.page_cache.specs.declared.cache.PageCache.{PageCache}
+use Rattle.page_cache.specs.declared.slots.Slots.{Slots}
+use Rattle.page_cache.specs.Caches.{cache_of}
+use Rattle.page_cache.specs.Slots.{slot_of, seen, differs, dirty_words, cached}
+use Rattle.page_cache.proofs.SlotLaws.{is_in_slot, slot_below}
 use Rattle.page_cache.proofs.Counting.{one_differs, on_one_page, page_dirty, few_dirty}
 use Rattle.page_cache.proofs.Viewing.{seen_written}
 
--- i: where the word lies
-module _ (pages copies twins : List ℕ) (dirty w v k i : ℕ) (there : i ≡ 64 * k + place_of w) (slot : slot_of (page_of w) pages ≡ Some k) (apart : T (once pages)) (counted : dirty ≡ dirty_words pages (seen pages copies) (seen pages twins)) where
-  present : is_in (page_of w) pages ≡ true
-  present = is_in_slot (w / 64) pages ∙ rw slot
+pub differs_once : (v t : ℕ) → differs v t ≤ 1
+differs_once v t = grind (arith, nat_tests)
 
-  pub word_of : (words : List ℕ) → get_or words i 0 ≡ seen pages words w
-  word_of words = ap (λ j. get_or words j 0) there ∙ sym (rw slot)
+pub few_counted : (s : PageCache) → s.dirty < 65536
+few_counted s =
+    omega (arith, s.few, s.pages.ok.0, s.counted, few_dirty (vec_items s.pages) (seen (vec_items s.pages) (vec_items s.slots.copies)) (seen (vec_items s.pages) (vec_items s.slots.twins)))
 
-  pub word_counted : differs (get_or copies i 0) (get_or twins i 0) ≤ dirty
-  word_counted =
-      let copy = seen pages copies in
-      let twin = seen pages twins in
-      let clean : differs (twin w) (twin w) ≡ 0 = grind (arith, nat_tests) in
-      let same : differs (get_or copies i 0) (get_or twins i 0) ≡ differs (copy w) (twin w) = rw (word_of copies, word_of twins) in
-      omega (arith, one_differs w (twin w) copy twin, page_dirty (w / 64) pages copy twin present)
+module _ (s : PageCache) (w k : ℕ) (slot : slot_of (page_of w) (vec_items s.pages) ≡ Some k) where
+  abbrev copy : ℕ → ℕ
+  copy = seen (vec_items s.pages) (vec_items s.slots.copies)
 
-  pub few_counted : length pages ≤ 256 → dirty < 65536
-  few_counted h = omega (arith, few_dirty pages (seen pages copies) (seen pages twins))
+  abbrev twin : ℕ → ℕ
+  twin = seen (vec_items s.pages) (vec_items s.slots.twins)
 
-  module _ (inside : i < length copies) where
-    pub word_written : seen pages (set copies i v) ≡ put w v (seen pages copies)
-    word_written =
-        ap (λ j. seen pages (set copies j v)) there ∙ seen_written pages (w / 64) k slot w v refl copies (omega arith)
+  present : is_in (page_of w) (vec_items s.pages) ≡ true
+  present = is_in_slot (w / 64) (vec_items s.pages) ∙ rw slot
 
-    pub recounted :
-        (dirty' : ℕ) → dirty' + differs (get_or copies i 0) (get_or twins i 0) ≡ dirty + differs v (get_or twins i 0) → dirty' ≡ dirty_words pages (seen pages (set copies i v)) (seen pages twins)
-    recounted dirty' h =
-        let copy = seen pages copies in
-        let twin = seen pages twins in
-        let was : differs (get_or copies i 0) (get_or twins i 0) ≡ differs (copy w) (twin w) = rw (word_of copies, word_of twins) in
-        let is : differs v (get_or twins i 0) ≡ differs v (twin w) = rw (word_of twins) in
-        let all = on_one_page (w / 64) copy twin (put w v copy) twin (λ u ne. grind (arith, nat_tests)) (λ u ne. refl) pages apart present in
-        rw word_written (omega (arith, one_differs w v copy twin))
+  -- where the word lies
+  word_of : (words : List ℕ) → memory words (64 * k + place_of w) ≡ seen (vec_items s.pages) words w
+  word_of words = sym (rw slot)
+
+  -- was: whether it differed
+  module _ (was : ℕ) (differed : was ≡ differs (memory (vec_items s.slots.copies) (64 * k + place_of w)) (memory (vec_items s.slots.twins) (64 * k + place_of w))) where
+    differed_there : was ≡ differs (copy w) (twin w)
+    differed_there = differed ∙ (rw (word_of (vec_items s.slots.copies), word_of (vec_items s.slots.twins)))
+
+    pub word_counted : was ≤ s.dirty
+    word_counted =
+        let clean : differs (twin w) (twin w) ≡ 0 = grind (arith, nat_tests) in
+        omega (arith, differed_there, s.counted, one_differs w (twin w) copy twin, page_dirty (w / 64) (vec_items s.pages) copy twin present)
+
+    -- new: the slots with the word written; is: whether it differs now
+    module _ (v : ℕ) (new : Slots) (written : vec_items new.copies ≡ set (vec_items s.slots.copies) (64 * k + place_of w) v) (kept : new.twins ≡ s.slots.twins)
+        (is : ℕ) (differing : is ≡ differs (memory (vec_items new.copies) (64 * k + place_of w)) (memory (vec_items new.twins) (64 * k + place_of w))) where
+      inside : 64 * k + place_of w < length (vec_items s.slots.copies)
+      inside = omega (arith, s.few, s.pages.ok.0, s.slots.copied, s.slots.copies.ok.0, slot_below (w / 64) k (vec_items s.pages) slot)
+
+      word_written : seen (vec_items s.pages) (vec_items new.copies) ≡ put w v copy
+      word_written =
+          ap (seen (vec_items s.pages)) written ∙ seen_written (vec_items s.pages) (w / 64) k slot w v refl (vec_items s.slots.copies) inside
+
+      differs_there : is ≡ differs v (twin w)
+      differs_there =
+          let here : memory (vec_items new.copies) (64 * k + place_of w) ≡ v = ap (λ xs. get_or xs (64 * k + place_of w) 0) written ∙ get_or-set_same (vec_items s.slots.copies) (64 * k + place_of w) v 0 inside in
+          differing ∙ (rw (here, kept, word_of (vec_items s.slots.twins)))
+
+      pub recounted : s.dirty - was + is ≡ dirty_words (vec_items s.pages) (seen (vec_items s.pages) (vec_items new.copies)) (seen (vec_items s.pages) (vec_items new.twins))
+      recounted =
+          let all = on_one_page (w / 64) copy twin (put w v copy) twin (λ u ne. grind (arith, nat_tests)) (λ u ne. refl) (vec_items s.pages) s.distinct present in
+          rw (word_written, kept) (omega (arith, differed_there, differs_there, s.counted, word_counted, one_differs w v copy twin))
+
+      pub cache_written : cached (vec_items s.pages) (vec_items new.copies) (vec_items new.twins) ≡ wrote w v (cache_of s)
+      cache_written = rw (word_written, kept)

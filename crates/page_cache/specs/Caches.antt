@@ -8,7 +8,7 @@ use Rattle.page_cache.specs.declared.cache.PageCache.{PageCache}
 use Rattle.page_cache.specs.Slots.{cached}
 
 abbrev pub cache_of : PageCache → Cache
-cache_of c = cached (vec_items c.pages) (vec_items c.copies) (vec_items c.twins)
+cache_of c = cached (vec_items c.pages) (vec_items c.slots.copies) (vec_items c.slots.twins)
 
 -- the refusals of a page that comes, in rising order
 abbrev pub installs : {X : Type 0} → Cache → ℕ → Result X Refusal → Result X Refusal

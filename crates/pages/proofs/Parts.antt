@@ -1,105 +1,113 @@
 -- A page's part of lent words: what it holds, and the words after it was written.
-use Rattle.std.proofs.Common.{◌≡◌, ℕ, ◌+◌, ◌-◌, ◌*◌, ◌/◌, ◌%◌, ◌<◌, ◌≤◌, List, ◌++◌, length, get_or, take, drop, None, Option, unwrap_or, sym, ap, ◌∙◌, inl, inr, arith}
+use Rattle.std.proofs.Common.{◌≡◌, ℕ, ◌+◌, ◌-◌, ◌*◌, ◌/◌, ◌%◌, ◌<◌, ◌≤◌, cond, true, List, length, get_or, take, drop, None, Ok, Err, Option, unwrap_or, sym, ap, ◌∙◌, inl, inr, arith, rules}
 use mathlib.Core.Path.{fun_ext}
+use Rattle.std.specs.declared.ops.Range.{Range}
 use Rattle.std.proofs.lemmas.List.FromFn.{length-map-range_with_len, get_or-map-range_with_len}
-use Rattle.std.proofs.lemmas.List.{get_or_append_left, get_or-append_right, same_lists, get_or-take, get_or-drop, length-take, length-drop, get_or_default}
+use Rattle.std.proofs.lemmas.List.{places, same_lists, length-take, length-drop}
 use borrow.Rule.Slice.PartMut.{put_mid}
-use Rattle.std.proofs.lemmas.Bool.{cases_lt}
-use Rattle.std.proofs.lemmas.Bool.Decides.{eqb_tells}
+use Rattle.std.proofs.lemmas.Bool.{cases_lt, cases_Bool}
+use Rattle.std.proofs.lemmas.Bool.Decides.{eqb_tells, nat_tests}
+use Rattle.basics.specs.declared.Refusal.TheVariants.{Malformed}
 use Rattle.model.specs.Cache.{change, changes_at, on_page, placed}
 use Rattle.model.specs.Home.{page_at, patched}
-use Rattle.pages.specs.Memory.{memory}
+use Rattle.pages.specs.Memory.{memory, has_page}
+use Rattle.pages.proofs.Ranges.{same_ranges}
+
+-- a: where the part starts; n: how many words it has
+pub record IsPart (p a n : ℕ) (ws : List ℕ) : Type 0 where
+  pub reached : has_page p ws ≡ true
+  pub starts : a ≡ 64 * p
+  pub size : n ≡ 64
+  pub inside : a + 64 ≤ length ws
+
+abbrev whole : ℕ → Range ℕ
+whole p = record { start = 64 * p; end = 64 * p + 64 }
+
+-- the part that was given is the page
+pub found : {p : ℕ} {ws : List ℕ} {part : Range ℕ} → Ok part ≡ cond (has_page p ws) (Ok (whole p)) (Err Malformed) → IsPart p part.start (part.end - part.start) ws
+found {p} {ws} {part} e =
+    elim (cases_Bool (has_page p ws)) [
+      | inl t ↦ is t (let same : Ok part ≡ Ok (whole p) = rw t at e in cc)
+      | inr f ↦ (let none : Ok part ≡ Err Malformed = rw f at e in cc)
+    ]
+  where
+    is : has_page p ws ≡ true → part ≡ whole p → IsPart p part.start (part.end - part.start) ws
+    is t same =
+        let start : part.start ≡ 64 * p = ap (λ (r : Range ℕ). r.start) same in
+        let end : part.end ≡ 64 * p + 64 = ap (λ (r : Range ℕ). r.end) same in
+        record { reached = t; starts = start; size = omega arith; inside = grind (arith, nat_tests) }
 
 -- the words of a page are its part of the words
-module _ (ws : List ℕ) (p a n : ℕ) (starts : a ≡ 64 * p) (size : n ≡ 64) (inside : a + 64 ≤ length ws) where
+module _ {p a n : ℕ} {ws : List ℕ} (here : IsPart p a n ws) where
   pub page_part : page_at p (memory ws) ≡ take n (drop a ws)
   unfolding page_at
   page_part =
       same_lists _ _ (length-map-range_with_len (memory ws) (64 * p) 64 ∙ simp (length-take, length-drop) (omega arith))
       (λ k d i.
       let below : k < 64 = omega (arith, length-map-range_with_len (memory ws) (64 * p) 64) in
-      let short : k < n = omega arith in
-      let there : a + k < length ws = omega arith in
-      get_or-map-range_with_len (memory ws) (64 * p) 64 k (a + k) d below (omega arith) ∙ get_or_default ws (a + k) 0 d there ∙ sym (get_or-take n (drop a ws) k d short ∙ get_or-drop a ws k d))
+      get_or-map-range_with_len (memory ws) (64 * p) 64 k (a + k) d below (omega arith) ∙ search (rules, places))
 
 -- a word of a page's part is a word of the page
-pub part_word :
-    (ws : List ℕ) (a n k : ℕ) → n ≡ 64 → k < 64 → get_or (take n (drop a ws)) k 0 ≡ memory ws (a + k)
-part_word ws a n k size h =
-    let short : k < n = omega arith in
-    get_or-take n (drop a ws) k 0 short ∙ get_or-drop a ws k 0
+pub part_word : {p a n : ℕ} {ws : List ℕ} → IsPart p a n ws → (k : ℕ) → k < 64 → get_or (take n (drop a ws)) k 0 ≡ memory ws (a + k)
+part_word {p} {a} {n} {ws} here k h = search (rules, places)
 
 -- the words after a page's part was written: in the page what was written, all others as they were
-module _ (ws part : List ℕ) (p a n : ℕ) (starts : a ≡ 64 * p) (size : n ≡ 64) (inside : a + 64 ≤ length ws) (as_long : length part ≡ length (take n (drop a ws))) where
-  front : length (take a ws) ≡ a
-  front = simp length-take (omega arith)
-
-  whole : length part ≡ n
-  whole = as_long ∙ simp (length-take, length-drop) (omega arith)
+module _ {p a n : ℕ} {ws : List ℕ} (here : IsPart p a n ws) (part : List ℕ) (as_long : length part ≡ length (take n (drop a ws))) where
+  long : length part ≡ 64
+  long = as_long ∙ simp (length-take, length-drop) (omega arith)
 
   -- a word of the page
   within : (k : ℕ) → k < 64 → memory (put_mid a n ws part) (a + k) ≡ get_or part k 0
-  within k h =
-      let there : k < length part = omega (arith, whole) in
-      let back : a + k - a ≡ k = omega arith in
-      get_or-append_right (take a ws) _ a (a + k) 0 front (omega arith) ∙ ap (λ i. get_or (part ++ drop n (drop a ws)) i 0) back ∙ get_or_append_left part (drop n (drop a ws)) 0 k there
+  within k h = search (rules, places)
 
   -- a word before it
   below : (w : ℕ) → w < a → memory (put_mid a n ws part) w ≡ memory ws w
-  below w h = get_or_append_left (take a ws) _ 0 w (omega (arith, front)) ∙ get_or-take a ws w 0 h
+  below w h = search (rules, places)
 
   -- a word behind it
   above : (w : ℕ) → a + 64 ≤ w → memory (put_mid a n ws part) w ≡ memory ws w
-  above w h =
-      let back : a + (n + (w - a - n)) ≡ w = omega arith in
-      get_or-append_right (take a ws) _ a w 0 front (omega arith) ∙ get_or-append_right part (drop n (drop a ws)) n (w - a) 0 whole (omega arith) ∙ get_or-drop n (drop a ws) (w - a - n) 0 ∙ get_or-drop a ws (n + (w - a - n)) 0 ∙ ap (memory ws) back
-
-  at_word : (w : ℕ) → memory (put_mid a n ws part) w ≡ on_page p (placed part) (memory ws) w
-  at_word w =
-      elim (eqb_tells (w / 64) p) [
-        | inl t ↦ rw t.0 (let place : a + w % 64 ≡ w = omega arith in rw place at (within (w % 64) (omega arith)))
-        | inr t ↦ rw t.0 (elim (cases_lt w a) [ inl h ↦ below w h | inr h ↦ above w (omega (arith, t.1)) ])
-      ]
-
-  pub written_part : memory (put_mid a n ws part) ≡ on_page p (placed part) (memory ws)
-  written_part = fun_ext at_word
+  above w h = search (rules, places)
 
   -- what is said of each place of the part is said of each word of the page
-  module _ (f : ℕ → ℕ) (new : (k : ℕ) → k < 64 → get_or part k 0 ≡ f (a + k)) where
-    at_page : (w : ℕ) → on_page p (placed part) (memory ws) w ≡ on_page p f (memory ws) w
-    at_page w =
-        elim (eqb_tells (w / 64) p) [
-          | inl t ↦ rw t.0 (let place : a + w % 64 ≡ w = omega arith in rw place at (new (w % 64) (omega arith)))
-          | inr t ↦ rw t.0
-        ]
+  pub written_page : (f : ℕ → ℕ) → ((k : ℕ) → k < 64 → get_or part k 0 ≡ f (a + k)) → memory (put_mid a n ws part) ≡ on_page p f (memory ws)
+  written_page f new = fun_ext at_word
+    where
+      at_word : (w : ℕ) → memory (put_mid a n ws part) w ≡ on_page p f (memory ws) w
+      at_word w =
+          elim (eqb_tells (w / 64) p) [
+            | inl t ↦ rw t.0 (let place : a + w % 64 ≡ w = omega arith in rw place at (within (w % 64) (omega arith) ∙ new (w % 64) (omega arith)))
+            | inr t ↦ rw t.0 (elim (cases_lt w a) [ inl h ↦ below w h | inr h ↦ above w (omega (arith, t.1)) ])
+          ]
 
-    pub written_page : memory (put_mid a n ws part) ≡ on_page p f (memory ws)
-    written_page = written_part ∙ fun_ext at_page
+  pub filled_part : memory (put_mid a n ws part) ≡ on_page p (placed part) (memory ws)
+  filled_part =
+      written_page (placed part)
+      (λ k h. let place : (a + k) % 64 ≡ k = omega arith in rw place)
 
--- a part into which changes were put
-module _ (ws part : List ℕ) (p a n : ℕ) (changes : List (Option ℕ)) (starts : a ≡ 64 * p) (size : n ≡ 64) (inside : a + 64 ≤ length ws) (as_long : length part ≡ length (take n (drop a ws)))
-    (new : (k : ℕ) → k < 64 → get_or part k 0 ≡ unwrap_or (get_or changes k None) (get_or (take n (drop a ws)) k 0)) where
-  newest : ℕ → ℕ
-  newest w = unwrap_or (get_or changes (w % 64) None) (memory ws w)
+  -- changes were put in
+  pub patched_part :
+      (changes : List (Option ℕ)) → ((k : ℕ) → k < 64 → get_or part k 0 ≡ unwrap_or (get_or changes k None) (get_or (take n (drop a ws)) k 0)) → memory (put_mid a n ws part) ≡ patched p changes (memory ws)
+  patched_part changes new =
+      written_page (λ w. unwrap_or (get_or changes (w % 64) None) (memory ws w))
+      (λ k h. let place : (a + k) % 64 ≡ k = omega arith in new k h ∙ rw (place, part_word here k h))
 
-  in_place : (k : ℕ) → k < 64 → get_or part k 0 ≡ newest (a + k)
-  unfolding newest
-  in_place k h =
-      let place : (a + k) % 64 ≡ k = omega arith in
-      new k h ∙ rw (place, part_word ws a n k size h)
+-- copy and twin of one page
+module _ {p a n b m : ℕ} {cs ts : List ℕ} (copy : IsPart p a n cs) (twin : IsPart p b m ts) where
+  same_start : b ≡ a
+  same_start = twin.starts ∙ sym copy.starts
 
-  pub patched_part : memory (put_mid a n ws part) ≡ patched p changes (memory ws)
-  unfolding newest
-  patched_part = written_page ws part p a n starts size inside as_long newest in_place
-
--- a diff of two parts is the diff of the page
-module _ (cs ts : List ℕ) (p a n : ℕ) (starts : a ≡ 64 * p) (size : n ≡ 64) where
-  pub part_changes : changes_at 0 (memory (take n (drop a cs))) (memory (take n (drop a ts))) ≡ changes_at p (memory cs) (memory ts)
+  -- a diff of two parts is the diff of the page
+  pub part_changes : changes_at 0 (memory (take n (drop a cs))) (memory (take m (drop b ts))) ≡ changes_at p (memory cs) (memory ts)
   unfolding changes_at
   part_changes =
-      let one = change (memory (take n (drop a cs))) (memory (take n (drop a ts))) in
-      let other = change (memory cs) (memory ts) in
-      same_lists _ _ (length-map-range_with_len one (64 * 0) 64 ∙ sym (length-map-range_with_len other (64 * p) 64))
-      (λ k d i.
-      let below : k < 64 = omega (arith, length-map-range_with_len one (64 * 0) 64) in
-      get_or-map-range_with_len one (64 * 0) 64 k k d below (omega arith) ∙ (rw (part_word cs a n k size below, part_word ts a n k size below)) ∙ sym (get_or-map-range_with_len other (64 * p) 64 k (a + k) d below (omega arith)))
+      same_ranges (change (memory (take n (drop a cs))) (memory (take m (drop b ts)))) (change (memory cs) (memory ts)) (64 * 0) (64 * p) 64
+      (λ k below.
+      let here : 64 * 0 + k ≡ k = omega arith in
+      let there : 64 * p + k ≡ a + k = omega (arith, copy.starts) in
+      rw (here, there, part_word copy k below, part_word twin k below, same_start))
+
+  -- the twin's part became the copy's
+  pub flushed_part : (part : List ℕ) → length part ≡ length (take m (drop b ts)) → part ≡ take n (drop a cs) → memory (put_mid b m ts part) ≡ on_page p (memory cs) (memory ts)
+  flushed_part part as_long is =
+      written_page twin part as_long (memory cs)
+      (λ k h. ap (λ words. get_or words k 0) is ∙ part_word copy k h ∙ ap (λ i. memory cs (i + k)) (sym same_start))

@@ -10,15 +10,16 @@ ghost use Rattle.pages.specs.Diffs.{diff_at};
 ghost use Rattle.pages.specs.Memory.{memory, has_page};
 
 use basics::{PAGE_WORDS, Refusal};
+use std::ops::Range;
 
 // The words of a page, or refused where the lent words do not reach so far.
 pub fn page_words(words: &[u32], page: u16) -> Result<[u32; 64], Refusal>
     ensures { result ≡ (if has_page page words.now then Ok (page_at page (memory words.now)) else Err Malformed) }
 {
-    let Some(start) = page_start(words, page) else {
-        return Err(Refusal::Malformed);
-    };
-    Ok(copied(words, page, start))
+    let part = part_of(words, page)?;
+    let mut copy = [0; PAGE_WORDS];
+    copy.copy_from_slice(&words[part]);
+    Ok(copy)
 }
 
 // Puts the changes of a page in, and leaves every other word as it was; refused where the lent words do not reach so far.
@@ -26,10 +27,8 @@ pub fn patch(words: &mut [u32], page: u16, changes: &[Option<u32>; 64]) -> Resul
     ensures answer { result ≡ (if has_page page words.old then Ok tt else Err Malformed) }
     ensures after { memory words.new ≡ (if has_page page words.old then patched page changes.now (memory words.old) else memory words.old) }
 {
-    let Some(start) = page_start(words, page) else {
-        return Err(Refusal::Malformed);
-    };
-    patch_at(words, page, start, changes);
+    let part = part_of(words, page)?;
+    put_in(&mut words[part], changes);
     Ok(())
 }
 
@@ -38,15 +37,13 @@ pub fn fill(words: &mut [u32], page: u16, new: &[u32; 64]) -> Result<(), Refusal
     ensures answer { result ≡ (if has_page page words.old then Ok tt else Err Malformed) }
     ensures after { memory words.new ≡ (if has_page page words.old then on_page page (placed new.now) (memory words.old) else memory words.old) }
 {
-    let Some(start) = page_start(words, page) else {
-        return Err(Refusal::Malformed);
-    };
-    fill_at(words, page, start, new);
+    let part = part_of(words, page)?;
+    words[part].copy_from_slice(new);
     Ok(())
 }
 
-// Where copy and twin of a page differ: the copy's word for each such place, and how many there are.
-#[derive(Clone, Copy)]
+// Where copy and twin of a page differ: the copy's word for each such place, and how many there are. They are counted in the pass that finds them, so that a cache's count of dirty words costs no second one.
+#[derive(Clone, Copy, Debug, PartialEq, Eq)]
 pub struct PageDiff {
     pub changes: [Option<u32>; 64],
     pub count: u32,
@@ -57,95 +54,46 @@ pub fn flush(copies: &[u32], twins: &mut [u32], page: u16) -> Result<PageDiff, R
     ensures answer { result ≡ (if has_page page copies.now && has_page page twins.old then Ok (diff_at page (memory copies.now) (memory twins.old)) else Err Malformed) }
     ensures after { memory twins.new ≡ (if has_page page copies.now && has_page page twins.old then on_page page (memory copies.now) (memory twins.old) else memory twins.old) }
 {
-    let Some(start) = page_start(copies, page) else {
-        return Err(Refusal::Malformed);
-    };
-    if page_start(twins, page).is_none() {
+    let copy = &copies[part_of(copies, page)?];
+    let part = part_of(twins, page)?;
+    Ok(flush_part(copy, &mut twins[part]))
+}
+
+// Which part of the words the page is; refused where there are not all of them.
+fn part_of(words: &[u32], page: u16) -> Result<Range<usize>, Refusal>
+    ensures { result ≡ (if has_page page words.now then Ok (record { start = 64 * page; end = 64 * page + 64 }) else Err Malformed) }
+{
+    let start = PAGE_WORDS * usize::from(page);
+    let end = start + PAGE_WORDS;
+    if words.len() < end {
         return Err(Refusal::Malformed);
     }
-    Ok(flush_at(copies, twins, page, start))
+    Ok(start..end)
 }
 
-// Where the page's words start, if there are all of them.
-fn page_start(words: &[u32], page: u16) -> Option<usize>
-    ensures { result ≡ (if has_page page words.now then Some (64 * page) else None) }
-{
-    let start = PAGE_WORDS * page as usize;
-    if words.len() < start + PAGE_WORDS {
-        return None;
-    }
-    Some(start)
-}
-
-// The page's part of the words, as an array.
-fn copied(words: &[u32], page: u16, start: usize) -> [u32; 64]
-    requires there { start ≡ 64 * page }
-    requires whole { start + 64 ≤ length words.now }
-    ensures { result ≡ page_at page (memory words.now) }
-{
-    let mut part = [0; 64];
-    part.copy_from_slice(&words[start..start + PAGE_WORDS]);
-    part
-}
-
-// Hands the page's part of the words on to be written.
-fn patch_at(words: &mut [u32], page: u16, start: usize, changes: &[Option<u32>; 64])
-    requires there { start ≡ 64 * page }
-    requires whole { start + 64 ≤ length words.old }
-    ensures { memory words.new ≡ patched page changes.now (memory words.old) }
-{
-    put_in(&mut words[start..start + PAGE_WORDS], changes);
-}
-
-// Writes the changed words of one page.
+// Writes the changed words of one page, by place: of words written through a zip a proof knows nothing.
 fn put_in(part: &mut [u32], changes: &[Option<u32>; 64])
     requires { length part.old ≡ 64 }
     ensures { (k : ℕ) → k < 64 → slice_index part.new k ≡ unwrap_or (slice_index_or changes.now k None) (slice_index part.old k) }
 {
-    for place in 0..PAGE_WORDS {
-        if let Some(word) = changes[place] {
-            part[place] = word;
-        }
+    for (place, word) in part.iter_mut().enumerate() {
+        *word = changes[place].unwrap_or(*word);
     }
 }
 
-// Writes the page's part of the words.
-fn fill_at(words: &mut [u32], page: u16, start: usize, new: &[u32; 64])
-    requires there { start ≡ 64 * page }
-    requires whole { start + 64 ≤ length words.old }
-    ensures { memory words.new ≡ on_page page (placed new.now) (memory words.old) }
-{
-    words[start..start + PAGE_WORDS].copy_from_slice(new);
-}
-
-// Hands on the page's part of copies and twins, one to be read while the other is written.
-fn flush_at(copies: &[u32], twins: &mut [u32], page: u16, start: usize) -> PageDiff
-    requires there { start ≡ 64 * page }
-    requires copied { start + 64 ≤ length copies.now }
-    requires twinned { start + 64 ≤ length twins.old }
-    ensures diff { result ≡ diff_at page (memory copies.now) (memory twins.old) }
-    ensures after { memory twins.new ≡ on_page page (memory copies.now) (memory twins.old) }
-{
-    flush_part(
-        &copies[start..start + PAGE_WORDS],
-        &mut twins[start..start + PAGE_WORDS],
-    )
-}
-
-// Collects the words of one page whose copy is not their twin; the twin becomes the copy.
+// Collects the words of one page whose copy is not their twin, by place for the same reason; the twin becomes the copy.
 fn flush_part(copy: &[u32], twin: &mut [u32]) -> PageDiff
     requires copied { length copy.now ≡ 64 }
     requires twinned { length twin.old ≡ 64 }
     ensures diff { result ≡ diff_at 0 (memory copy.now) (memory twin.old) }
     ensures after { twin.new ≡ copy.now }
 {
-    let mut changes = [None; 64];
+    let mut changes = [None; PAGE_WORDS];
     let mut count = 0;
-    for place in 0..PAGE_WORDS {
-        let word = copy[place];
-        if word != twin[place] {
-            changes[place] = Some(word);
-            twin[place] = word;
+    for (place, word) in copy.iter().enumerate() {
+        if *word != twin[place] {
+            changes[place] = Some(*word);
+            twin[place] = *word;
             count += 1;
         }
     }

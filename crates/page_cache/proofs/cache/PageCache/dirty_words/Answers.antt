@@ -1,6 +1,0 @@
-use Rattle.std.proofs.Common.{eqb, sym, ap, ◌∙◌}
-use Rattle.page_cache.proofs.Counting.{none_dirty}
-use Rattle.page_cache.proofs.cache.PageCache.dirty_words.Goals as goal
-
-pub returns : goal.returns
-returns c = sym (ap (λ n. eqb n 0) c.args.self.now.counted ∙ none_dirty _ _ _)
