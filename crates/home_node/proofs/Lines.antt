@@ -1,54 +1,55 @@
--- Walks along the line of those who wait, place by place.
-use Rattle.std.proofs.Common.{◌≡◌, ℕ, ◌+◌, ◌<◌, ◌≤◌, true, false, cond, eqb, List, [], ◌∷◌, ◌++◌, length, get_or, take, drop, Some, None, sym, refl, ap, ◌∙◌, add-one, arith}
-use Rattle.std.proofs.lemmas.List.{drop_more, drop_all, take_more, take_all, append_assoc, append-nil, get_or_default}
-use Rattle.std.proofs.lemmas.Bool.Decides.{nat_tests}
+-- Searches along the line of those who wait.
+use Rattle.std.proofs.Common.{◌≡◌, ℕ, suc, ◌+◌, ◌≤◌, Bool, ltb, cond, eqb, List, [], ◌∷◌, length, Some, None, Option, inl, inr, refl, ap, ◌∙◌, arith, position}
+use Rattle.std.specs.List.{find, position_or_len, remove, slice_get}
+use Rattle.std.specs.Option.{option_map}
+use Rattle.std.proofs.lemmas.Option.{slice_get-get_or, slice_get_past}
+use Rattle.std.proofs.lemmas.List.{append-nil, drop_all, take_all}
+use Rattle.std.proofs.lemmas.Bool.Decides.{eqb_tells, leb_tells, nat_tests}
 use Rattle.model.specs.declared.Waiter.{Waiter}
 use Rattle.model.specs.Locks.{waits_with, first_for, without_first}
 use Rattle.home_node.specs.Lines.{Found}
 
-module _ (s : ℕ) (ws : List Waiter) (i : ℕ) (d : Waiter) (h : i < length ws) where
-  waits_next : waits_with s (drop i ws) ≡ cond (eqb (get_or ws i d).station s) (Some (get_or ws i d).number) (waits_with s (drop (i + 1) ws))
-  waits_next = ap (waits_with s) (drop_more ws i d h)
+number_of_first : (s : ℕ) (ws : List Waiter) → option_map (λ w. w.number) (find (λ w. eqb w.station s) ws) ≡ waits_with s ws
+number_of_first s [] = refl
+number_of_first s (w ∷ ws) = let e = number_of_first s ws in grind (arith, nat_tests)
 
-  pub waits_here : (get_or ws i d).station ≡ s → waits_with s (drop i ws) ≡ Some (get_or ws i d).number
-  waits_here e = waits_next ∙ (let t : eqb (get_or ws i d).station s ≡ true = grind (arith, nat_tests) in rw t)
+number_through : {A : Type 0} (v : A → Waiter) (found : Option A) → option_map (λ x. (v x).number) found ≡ option_map (λ w. w.number) (option_map v found)
+number_through v None = refl
+number_through v (Some x) = refl
 
-  pub waits_on : ((get_or ws i d).station ≡ s → ⊥) → waits_with s (drop i ws) ≡ waits_with s (drop (i + 1) ws)
-  waits_on e = waits_next ∙ (let t : eqb (get_or ws i d).station s ≡ false = grind (arith, nat_tests) in rw t)
+-- the first waiter of the station, if there is one, waits with this number
+pub number_found : {A : Type 0} (v : A → Waiter) (found : Option A) (s : ℕ) (ws : List Waiter) → option_map v found ≡ find (λ w. eqb w.station s) ws → option_map (λ x. (v x).number) found ≡ waits_with s ws
+number_found v found s ws e = number_through v found ∙ ap (option_map (λ w. w.number)) e ∙ number_of_first s ws
 
-pub waits_none : (s : ℕ) (ws : List Waiter) (i : ℕ) → length ws ≤ i → waits_with s (drop i ws) ≡ None
-waits_none s ws i h = ap (waits_with s) (drop_all i ws h)
+module _ (l : ℕ) where
+  abbrev waits_for : Waiter → Bool
+  waits_for w = eqb w.lock l
 
--- nobody before this place waits for the lock
-pub record NoneBefore (l : ℕ) (ws : List Waiter) (i : ℕ) : Type 0 where
-  pub first : first_for l ws ≡ first_for l (drop i ws)
-  pub without : without_first l ws ≡ take i ws ++ without_first l (drop i ws)
+  first : (ws : List Waiter) → first_for l ws ≡ slice_get ws (position_or_len waits_for ws)
+  first [] = refl
+  first (w ∷ ws) = let e = first ws in grind (arith, nat_tests)
 
-pub none_at_first : (l : ℕ) (ws : List Waiter) → NoneBefore l ws 0
-none_at_first l ws = record { first = refl; without = refl }
+  others : (ws : List Waiter) → without_first l ws ≡ remove ws (position_or_len waits_for ws)
+  others [] = refl
+  others (w ∷ ws) =
+      let next : 1 + position_or_len waits_for ws ≡ suc (position_or_len waits_for ws) = omega arith in
+      elim (eqb_tells w.lock l) [
+        | inl t ↦ rw t.0 refl
+        | inr t ↦ rw t.0 (rw next (ap (λ r. w ∷ r) (others ws)))
+      ]
 
-module _ (l : ℕ) (ws : List Waiter) (i : ℕ) (d : Waiter) (h : i < length ws) (before : NoneBefore l ws i) where
-  first_next : first_for l (drop i ws) ≡ cond (eqb (get_or ws i d).lock l) (Some (get_or ws i d)) (first_for l (drop (i + 1) ws))
-  first_next = ap (first_for l) (drop_more ws i d h)
+  remove_past : (ws : List Waiter) (i : ℕ) → length ws ≤ i → remove ws i ≡ ws
+  remove_past ws i h = rw (take_all i ws h, drop_all (suc i) ws (omega arith)) (append-nil ws)
 
-  without_next : without_first l (drop i ws) ≡ cond (eqb (get_or ws i d).lock l) (drop (i + 1) ws) (get_or ws i d ∷ without_first l (drop (i + 1) ws))
-  without_next = ap (without_first l) (drop_more ws i d h)
+  at_place : (ws : List Waiter) (i : ℕ) → i ≡ position_or_len waits_for ws → Found l ws (cond (ltb i (length ws)) (Some i) None)
+  at_place ws i e =
+      let f : first_for l ws ≡ slice_get ws i = rw e (first ws) in
+      let o : without_first l ws ≡ remove ws i = rw e (others ws) in
+      elim (leb_tells (suc i) (length ws)) [
+        | inl t ↦ rw t.0 (t.1, λ d. f ∙ slice_get-get_or ws i d t.1, o)
+        | inr t ↦ rw t.0 (f ∙ slice_get_past ws i (omega (arith, t.1)), o ∙ remove_past ws i (omega (arith, t.1)))
+      ]
 
-  pub found_here : (get_or ws i d).lock ≡ l → Found l ws (Some i)
-  found_here e =
-      let t : eqb (get_or ws i d).lock l ≡ true = grind (arith, nat_tests) in
-      (h, λ y. before.first ∙ first_next ∙ rw t (ap Some (get_or_default ws i d y h)), before.without ∙ ap (λ r. take i ws ++ r) (without_next ∙ rw t (ap (λ n. drop n ws) (add-one i))))
-
-  pub none_here : ((get_or ws i d).lock ≡ l → ⊥) → NoneBefore l ws (i + 1)
-  none_here e =
-      let t : eqb (get_or ws i d).lock l ≡ false = grind (arith, nat_tests) in
-      record {
-        first = before.first ∙ first_next ∙ rw t;
-        without =
-            before.without ∙ ap (λ r. take i ws ++ r) (without_next ∙ rw t) ∙ sym (append_assoc (take i ws) (get_or ws i d ∷ []) _) ∙ ap (λ f. f ++ without_first l (drop (i + 1) ws)) (sym (take_more ws i d h));
-      }
-
-pub none_at_all : (l : ℕ) (ws : List Waiter) (i : ℕ) → length ws ≤ i → NoneBefore l ws i → Found l ws None
-none_at_all l ws i h before =
-    let end = drop_all i ws h in
-    (before.first ∙ ap (first_for l) end, before.without ∙ ap (λ v. take i ws ++ without_first l v) end ∙ append-nil _ ∙ take_all i ws h)
+  -- the place of the first that waits for the lock, if anybody does
+  pub placed : (ws : List Waiter) → Found l ws (position waits_for ws)
+  placed ws = at_place ws _ refl

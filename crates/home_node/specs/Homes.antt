@@ -6,7 +6,7 @@ use Rattle.home_node.specs.declared.node.Home.{Home}
 use Rattle.home_node.specs.Tables.{state_of}
 
 abbrev pub home_of : Home → HomeState
-home_of h = state_of h.words h.applied h.locks
+home_of h = state_of h.state
 
 -- All that came in before led to the one state and, with these bytes, to the other; and all promises are kept then.
 pub record Onward (before after : HomeState) (bytes : List ℕ) (seen : List (List ℕ)) : Type 0 where

@@ -1,38 +1,32 @@
-// What a message is answered with.
-ghost use Rattle.std.specs.Prelude.{◌≡◌, Some, None};
+// What a message is answered with: what is sent, or a refusal.
+ghost use Rattle.std.specs.Prelude.{◌≡◌};
+ghost use Rattle.home_node.specs.declared.answer.Sent.TheVariants.{Nothing};
 
 use basics::Refusal;
 use model::Message;
 
-// The messages sent, in order.
-#[derive(Clone, Copy)]
+// The messages sent, in order. An enum, since an answer takes no memory and so can't fail for want of it.
+#[derive(Clone, Copy, Debug, PartialEq, Eq)]
 pub enum Sent {
     Nothing,
     One(Message),
     Two(Message, Message),
 }
 
-// Refused or done, and what is sent. A refusal changes nothing; some are answered all the same.
-#[derive(Clone, Copy)]
-pub struct Answer {
-    pub refusal: Option<Refusal>,
+// Why a message is refused. A refusal changes nothing; some are answered all the same.
+#[derive(Clone, Copy, Debug, PartialEq, Eq)]
+pub struct Refused {
+    pub why: Refusal,
     pub sent: Sent,
 }
 
-pub fn done(sent: Sent) -> Answer
-    ensures { result ≡ record { refusal = None; sent = sent } }
-{
-    Answer {
-        refusal: None,
-        sent,
-    }
-}
+impl From<Refusal> for Refused {
+    ghost from_gives = { λ why refused. refused ≡ record { why = why; sent = Nothing } };
 
-pub fn refused(why: Refusal, sent: Sent) -> Answer
-    ensures { result ≡ record { refusal = Some why; sent = sent } }
-{
-    Answer {
-        refusal: Some(why),
-        sent,
+    fn from(why: Refusal) -> Refused {
+        Refused {
+            why,
+            sent: Sent::Nothing,
+        }
     }
 }

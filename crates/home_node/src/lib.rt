@@ -5,5 +5,5 @@ mod answer;
 mod locks;
 mod node;
 
-pub use answer::{Answer, Sent};
+pub use answer::{Refused, Sent};
 pub use node::Home;

@@ -4,6 +4,7 @@ ghost use Rattle.promise.specs.Home.{apart};
 
 use model::{Holder, Waiter};
 
+pub mod claim;
 mod line;
 mod table;
 

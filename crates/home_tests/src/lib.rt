@@ -4,13 +4,13 @@
 #[cfg(test)]
 mod tests {
     use basics::Refusal;
-    use home_node::{Answer, Home, Sent};
+    use home_node::{Home, Refused, Sent};
     use model::Message;
     use std::test::Fail;
     use wire::{decode, encode};
 
     // What a home answers, with no more said of it.
-    fn answer(home: &mut Home, bytes: &[u8]) -> Answer {
+    fn answer(home: &mut Home, bytes: &[u8]) -> Result<Sent, Refused> {
         home.receive(bytes)
     }
 
@@ -18,21 +18,20 @@ mod tests {
         home.word(word)
     }
 
-    // The station that the only message of an answer grants the lock to.
-    fn granted(sent: Sent) -> Option<u8> {
-        match sent {
-            Sent::One(Message::LockGranted { station, .. }) => Some(station),
-            _ => None,
+    // That the station's first request for lock 1 is granted, and that its release is taken.
+    fn granted(station: u8) -> Message {
+        Message::LockGranted {
+            station,
+            lock: 1,
+            number: 1,
         }
     }
 
-    // The station that gets the lock that was given back.
-    fn passed_on(sent: Sent) -> Option<u8> {
-        match sent {
-            Sent::Two(Message::ReleaseTaken { .. }, Message::LockGranted { station, .. }) => Some(
-                station,
-            ),
-            _ => None,
+    fn taken(station: u8) -> Message {
+        Message::ReleaseTaken {
+            station,
+            lock: 1,
+            number: 1,
         }
     }
 
@@ -50,9 +49,19 @@ mod tests {
 
     #[test]
     fn a_cut_message_is_refused(rt: HostRuntime) {
-        assert!(rt; decode(b"\x05\x00\x01\x00\x00\x00\x01").is_ok());
-        assert!(rt; decode(b"\x05\x00\x01\x00\x00\x00").is_err());
-        assert!(rt; decode(b"").is_err());
+        assert_eq!(rt;
+            decode(b"\x05\x00\x01\x00\x00\x00\x01"),
+            Ok(Message::LockRequest {
+                station: 0,
+                lock: 1,
+                number: 1
+            })
+        );
+        assert_eq!(rt;
+            decode(b"\x05\x00\x01\x00\x00\x00"),
+            Err(Refusal::Malformed)
+        );
+        assert_eq!(rt; decode(b""), Err(Refusal::Malformed));
     }
 
     // a diff that comes again after another station's later write leaves that write
@@ -60,13 +69,24 @@ mod tests {
     fn a_diff_is_put_in_once(rt: HostRuntime) -> Result<(), Fail> {
         let mut home = Home::new(rt.alloc())?;
         let first = b"\x03\x00\x00\x00\x00\x01\x00\x00\x01\x05\x00\x00\x00\x07";
-        assert_eq!(rt; answer(&mut home, first).refusal, None);
+        let first_applied = Sent::One(Message::DiffApplied {
+            station: 0,
+            number: 1,
+        });
+        assert_eq!(rt; answer(&mut home, first), Ok(first_applied));
         assert_eq!(rt; word(&home, 5)?, 7);
         let later = b"\x03\x01\x00\x00\x00\x01\x00\x00\x01\x05\x00\x00\x00\x09";
-        assert_eq!(rt; answer(&mut home, later).refusal, None);
+        let later_applied = Sent::One(Message::DiffApplied {
+            station: 1,
+            number: 1,
+        });
+        assert_eq!(rt; answer(&mut home, later), Ok(later_applied));
         assert_eq!(rt;
-            answer(&mut home, first).refusal,
-            Some(Refusal::StaleNumber)
+            answer(&mut home, first),
+            Err(Refused {
+                why: Refusal::StaleNumber,
+                sent: first_applied
+            })
         );
         assert_eq!(rt; word(&home, 5)?, 9);
         Ok(())
@@ -76,24 +96,24 @@ mod tests {
     fn a_lock_goes_in_turn(rt: HostRuntime) -> Result<(), Fail> {
         let mut home = Home::new(rt.alloc())?;
         assert_eq!(rt;
-            granted(answer(&mut home, b"\x05\x02\x01\x00\x00\x00\x01").sent),
-            Some(2)
+            answer(&mut home, b"\x05\x02\x01\x00\x00\x00\x01"),
+            Ok(Sent::One(granted(2)))
         );
         assert_eq!(rt;
-            granted(answer(&mut home, b"\x05\x01\x01\x00\x00\x00\x01").sent),
-            None
+            answer(&mut home, b"\x05\x01\x01\x00\x00\x00\x01"),
+            Ok(Sent::Nothing)
         );
         assert_eq!(rt;
-            granted(answer(&mut home, b"\x05\x00\x01\x00\x00\x00\x01").sent),
-            None
+            answer(&mut home, b"\x05\x00\x01\x00\x00\x00\x01"),
+            Ok(Sent::Nothing)
         );
         assert_eq!(rt;
-            passed_on(answer(&mut home, b"\x07\x02\x01\x00\x00\x00\x01").sent),
-            Some(1)
+            answer(&mut home, b"\x07\x02\x01\x00\x00\x00\x01"),
+            Ok(Sent::Two(taken(2), granted(1)))
         );
         assert_eq!(rt;
-            passed_on(answer(&mut home, b"\x07\x01\x01\x00\x00\x00\x01").sent),
-            Some(0)
+            answer(&mut home, b"\x07\x01\x01\x00\x00\x00\x01"),
+            Ok(Sent::Two(taken(1), granted(0)))
         );
         Ok(())
     }
@@ -101,8 +121,8 @@ mod tests {
     #[test]
     fn no_such_word(rt: HostRuntime) -> Result<(), Fail> {
         let home = Home::new(rt.alloc())?;
-        assert_eq!(rt; word(&home, 65535)?, 0);
-        assert!(rt; word(&home, 65536).is_err());
+        assert_eq!(rt; word(&home, 65535), Ok(0));
+        assert_eq!(rt; word(&home, 65536), Err(Refusal::Malformed));
         Ok(())
     }
 }

@@ -1,5 +1,5 @@
 -- What is written element by element: what is out so far, with the bytes of the rest, is the whole.
-use Rattle.std.proofs.Common.{◌≡◌, ℕ, ◌+◌, ◌<◌, ◌≤◌, true, false, List, [], ◌∷◌, ◌++◌, length, get_or, drop, is_some, Some, None, Option, sym, refl, ap, ◌∙◌, append_assoc, zero-add, add-one, arith}
+use Rattle.std.proofs.Common.{◌≡◌, ℕ, suc, ◌+◌, ◌<◌, ◌≤◌, List, [], ◌∷◌, ◌++◌, length, get_or, drop, is_some, filter, Some, None, Option, sym, refl, ap, ◌∙◌, append_assoc, add-one}
 use Rattle.std.proofs.lemmas.List.{append-nil, drop_more, drop_all}
 use Rattle.basics.specs.Numbers.{u32_bytes}
 use Rattle.model.specs.Bytes.{word_bytes, change_count, change_bytes}
@@ -23,11 +23,7 @@ module _ (ws : List ℕ) (i : ℕ) (out all : List ℕ) (inv : out ++ word_bytes
   unfolding word_bytes
   words_all h = ended _ _ _ (ap word_bytes (drop_all i ws h)) inv
 
--- what a place's change adds to the count and to the bytes
-abbrev pub counted : Option ℕ → ℕ
-counted None = 0
-counted (Some v) = 1
-
+-- what a place's change adds to the bytes
 abbrev pub piece_of : ℕ → Option ℕ → List ℕ
 piece_of place None = []
 piece_of place (Some v) = place ∷ u32_bytes v
@@ -36,31 +32,17 @@ none_piece : (place : ℕ) (c : Option ℕ) → ((v : ℕ) → c ≡ Some v → 
 none_piece place None n = refl
 none_piece place (Some v) n = absurd (n v refl)
 
-pub one_counts : (c : Option ℕ) → is_some c ≡ true → counted c ≡ 1
-one_counts None e = absurd (let z : ◌≡◌ {A = ℕ} 0 1 = cc in omega arith)
-one_counts (Some v) e = refl
-
-pub none_counts : (c : Option ℕ) → is_some c ≡ false → counted c ≡ 0
-none_counts None e = refl
-none_counts (Some v) e = absurd (let z : ◌≡◌ {A = ℕ} 0 1 = cc in omega arith)
-
-count_first : (c : Option ℕ) (cs : List (Option ℕ)) → change_count (c ∷ cs) ≡ counted c + change_count cs
+-- the changes that are there, counted
+pub counted : (cs : List (Option ℕ)) → length (filter is_some cs) ≡ change_count cs
 unfolding change_count
-count_first None cs = sym (zero-add _)
-count_first (Some v) cs = omega arith
+counted [] = refl
+counted (None ∷ cs) = counted cs
+counted (Some v ∷ cs) = ap suc (counted cs)
 
 bytes_first : (place : ℕ) (c : Option ℕ) (cs : List (Option ℕ)) → change_bytes place (c ∷ cs) ≡ piece_of place c ++ change_bytes (place + 1) cs
 unfolding change_bytes
 bytes_first place None cs = rw (add-one place)
 bytes_first place (Some v) cs = rw (add-one place)
-
-module _ (cs : List (Option ℕ)) (i n all : ℕ) (inv : n + change_count (drop i cs) ≡ all) where
-  pub count_more : i < length cs → n + counted (get_or cs i None) + change_count (drop (i + 1) cs) ≡ all
-  count_more h = omega (arith, ap change_count (drop_more cs i None h) ∙ count_first _ _)
-
-  pub count_all : length cs ≤ i → n ≡ all
-  unfolding change_count
-  count_all h = omega (arith, ap change_count (drop_all i cs h))
 
 module _ (cs : List (Option ℕ)) (i : ℕ) (out all : List ℕ) (inv : out ++ change_bytes i (drop i cs) ≡ all) where
   changes_more : (out' : List ℕ) → i < length cs → out' ≡ out ++ piece_of i (get_or cs i None) → out' ++ change_bytes (i + 1) (drop (i + 1) cs) ≡ all

@@ -1,7 +1,7 @@
 // Messages as bytes: `encode` gives a message's bytes, `decode` reads any bytes as a message or refuses them.
 #![tactic(auto)]
 
-mod fields;
+mod kind;
 mod read;
 mod write;
 

@@ -2,7 +2,9 @@
 ghost use Rattle.std.specs.Prelude.{◌≡◌, [], ◌∷◌, ◌++◌, IfOk, OnOk};
 ghost use Rattle.basics.specs.Numbers.{u16_bytes, u32_bytes};
 ghost use Rattle.model.specs.Bytes.{bytes_of, word_bytes, change_bytes, change_count};
+ghost use Rattle.wire.specs.Kinds.{number_of};
 
+use crate::kind::Kind;
 use model::Message;
 use std::alloc::{AllocError, Global};
 
@@ -15,14 +17,17 @@ pub fn encode(heap: Global, message: &Message) -> Result<Vec<u8>, AllocError>
             station,
             page,
             number,
-        } => Vec::from_slice(heap, &page_head(1, station, page, number)),
+        } => Vec::from_slice(heap, &page_head(Kind::PageRequest, station, page, number)),
         Message::PageReply {
             station,
             page,
             number,
             words,
         } => {
-            let mut out = Vec::from_slice(heap, &page_head(2, station, page, number))?;
+            let mut out = Vec::from_slice(
+                heap,
+                &page_head(Kind::PageReply, station, page, number),
+            )?;
             push_words(&mut out, &words)?;
             Ok(out)
         }
@@ -41,37 +46,37 @@ pub fn encode(heap: Global, message: &Message) -> Result<Vec<u8>, AllocError>
         }
         Message::DiffApplied { station, number } => {
             let [a, b, c, d] = number.to_be_bytes();
-            Vec::from_slice(heap, &[4, station, a, b, c, d])
+            Vec::from_slice(heap, &[Kind::DiffApplied.number(), station, a, b, c, d])
         }
         Message::LockRequest {
             station,
             lock,
             number,
-        } => Vec::from_slice(heap, &on_lock(5, station, lock, number)),
+        } => Vec::from_slice(heap, &on_lock(Kind::LockRequest, station, lock, number)),
         Message::LockGranted {
             station,
             lock,
             number,
-        } => Vec::from_slice(heap, &on_lock(6, station, lock, number)),
+        } => Vec::from_slice(heap, &on_lock(Kind::LockGranted, station, lock, number)),
         Message::LockReleased {
             station,
             lock,
             number,
-        } => Vec::from_slice(heap, &on_lock(7, station, lock, number)),
+        } => Vec::from_slice(heap, &on_lock(Kind::LockReleased, station, lock, number)),
         Message::ReleaseTaken {
             station,
             lock,
             number,
-        } => Vec::from_slice(heap, &on_lock(8, station, lock, number)),
+        } => Vec::from_slice(heap, &on_lock(Kind::ReleaseTaken, station, lock, number)),
     }
 }
 
-fn page_head(kind: u8, station: u8, page: u16, number: u32) -> [u8; 8]
-    ensures { result ≡ kind ∷ station ∷ (u16_bytes page ++ u32_bytes number) }
+fn page_head(kind: Kind, station: u8, page: u16, number: u32) -> [u8; 8]
+    ensures { result ≡ number_of kind ∷ station ∷ (u16_bytes page ++ u32_bytes number) }
 {
     let [p, q] = page.to_be_bytes();
     let [a, b, c, d] = number.to_be_bytes();
-    [kind, station, p, q, a, b, c, d]
+    [kind.number(), station, p, q, a, b, c, d]
 }
 
 fn diff_head(station: u8, number: u32, page: u16, count: u8) -> [u8; 9]
@@ -79,14 +84,14 @@ fn diff_head(station: u8, number: u32, page: u16, count: u8) -> [u8; 9]
 {
     let [a, b, c, d] = number.to_be_bytes();
     let [p, q] = page.to_be_bytes();
-    [3, station, a, b, c, d, p, q, count]
+    [Kind::Diff.number(), station, a, b, c, d, p, q, count]
 }
 
-fn on_lock(kind: u8, station: u8, lock: u8, number: u32) -> [u8; 7]
-    ensures { result ≡ kind ∷ station ∷ lock ∷ u32_bytes number }
+fn on_lock(kind: Kind, station: u8, lock: u8, number: u32) -> [u8; 7]
+    ensures { result ≡ number_of kind ∷ station ∷ lock ∷ u32_bytes number }
 {
     let [a, b, c, d] = number.to_be_bytes();
-    [kind, station, lock, a, b, c, d]
+    [kind.number(), station, lock, a, b, c, d]
 }
 
 fn push_words(out: &mut Vec<u8>, words: &[u32; 64]) -> Result<(), AllocError>
@@ -101,13 +106,7 @@ fn push_words(out: &mut Vec<u8>, words: &[u32; 64]) -> Result<(), AllocError>
 fn change_count(changes: &[Option<u32>; 64]) -> u8
     ensures { result ≡ change_count changes.now }
 {
-    let mut count = 0;
-    for change in changes {
-        if change.is_some() {
-            count += 1;
-        }
-    }
-    count
+    changes.iter().filter(|change| change.is_some()).count() as u8
 }
 
 fn change_bytes(place: u8, word: u32) -> [u8; 5]
@@ -120,9 +119,9 @@ fn change_bytes(place: u8, word: u32) -> [u8; 5]
 fn push_changes(out: &mut Vec<u8>, changes: &[Option<u32>; 64]) -> Result<(), AllocError>
     ensures { OnOk result (out.new.items ≡ out.old.items ++ change_bytes 0 changes.now) }
 {
-    for place in 0..64u8 {
-        if let Some(word) = changes[place as usize] {
-            out.extend_from_slice(&change_bytes(place, word))?;
+    for (place, change) in changes.iter().enumerate() {
+        if let Some(word) = change {
+            out.extend_from_slice(&change_bytes(place as u8, *word))?;
         }
     }
     Ok(())

@@ -16,10 +16,7 @@ pub fn waits(waiting: &[Waiter], station: u8) -> bool
 pub fn still_waits(waiting: &[Waiter], station: u8, number: u32) -> bool
     ensures { result ≡ still_waits station number waiting.now }
 {
-    match waits_with(waiting, station) {
-        Some(waits) => waits == number,
-        None => false,
-    }
+    waits_with(waiting, station) == Some(number)
 }
 
 // Takes the first that waits for the lock out of the line; the others stay in their order.
@@ -29,32 +26,23 @@ pub fn take_first(waiting: &mut Vec<Waiter>, lock: u8) -> Option<Waiter>
     ensures none { result ≡ None → waiting.new.items ≡ waiting.old.items }
     ensures room { vec_capacity waiting.old ≤ vec_capacity waiting.new }
 {
-    match place_of(waiting.as_slice(), lock) {
-        Some(place) => Some(waiting.remove(place)),
-        None => None,
-    }
+    let place = place_of(waiting, lock)?;
+    Some(waiting.remove(place))
 }
 
 // The number with which a station waits, if it does.
 fn waits_with(waiting: &[Waiter], station: u8) -> Option<u32>
     ensures { result ≡ waits_with station waiting.now }
 {
-    for waiter in waiting {
-        if waiter.station == station {
-            return Some(waiter.number);
-        }
-    }
-    None
+    waiting
+        .iter()
+        .find(|waiter| waiter.station == station)
+        .map(|waiter| waiter.number)
 }
 
 // Where the first stands that waits for the lock.
 fn place_of(waiting: &[Waiter], lock: u8) -> Option<usize>
     ensures { Found lock waiting.now result }
 {
-    for (place, waiter) in waiting.iter().enumerate() {
-        if waiter.lock == lock {
-            return Some(place);
-        }
-    }
-    None
+    waiting.iter().position(|waiter| waiter.lock == lock)
 }

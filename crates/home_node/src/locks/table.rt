@@ -1,14 +1,16 @@
 // Requests and releases of locks.
-ghost use Rattle.std.specs.Prelude.{◌≡◌, ◌<◌, IfOk, None, slice_index_or};
-ghost use Rattle.model.specs.Locks.{unlocked, admitted, requests, passed_on, releases, waits_with, first_for, is_held_by};
-ghost use Rattle.home_node.specs.Answers.{reply_of};
+ghost use Rattle.std.specs.Prelude.{◌≡◌, IfOk, None, slice_index_or};
+ghost use Rattle.model.specs.Locks.{unlocked, admitted, requests, passed_on, releases, waits_with, first_for};
+ghost use Rattle.model.specs.Replies.{done};
+ghost use Rattle.home_node.specs.Answers.{reply_of, sent_of};
 ghost use Rattle.home_node.specs.Tables.{table_of};
 
-use crate::answer::{Answer, Sent, done, refused};
+use crate::answer::{Refused, Sent};
 use crate::locks::Locks;
+use crate::locks::claim::Claim;
 use crate::locks::line::{still_waits, take_first, waits};
 use basics::Refusal;
-use model::{Holder, Message, Waiter};
+use model::{Holder, Message};
 use std::alloc::{AllocError, Global};
 
 impl Locks {
@@ -23,119 +25,83 @@ impl Locks {
         })
     }
 
+    #[tactic(auto, using(crate::proofs::Once::once_more, promise::proofs::Queue::apart_room))]
     // A request that is new: granted if nobody holds the lock, else behind all that wait.
-    fn admit(&mut self, station: u8, lock: u8, number: u32) -> Answer
-        requires station_known { station < 16 }
-        requires lock_known { lock < 64 }
-        requires waits_not { waits_with station self.old.waiting.items ≡ None }
-        ensures { reply_of result (table_of self.new) ≡ admitted (table_of self.old) station lock number (slice_index_or self.old.holders lock None) }
+    fn admit(&mut self, claim: Claim) -> Sent
+        requires waits_not { waits_with claim.station self.old.waiting.items ≡ None }
+        ensures { done (sent_of result) (table_of self.new) ≡ admitted (table_of self.old) claim.station claim.lock claim.number (slice_index_or self.old.holders claim.lock None) }
     {
-        self.requested[station as usize] = number;
-        match self.holders[lock as usize] {
+        self.requested[claim.station as usize] = claim.number;
+        match self.holders[claim.lock as usize] {
             None => {
-                self.holders[lock as usize] = Some(Holder { station, number });
-                done(Sent::One(Message::LockGranted {
-                    station,
-                    lock,
-                    number,
-                }))
+                self.holders[claim.lock as usize] = Some(claim.holder());
+                Sent::One(claim.granted())
             }
             Some(_) => {
-                self.waiting.push_reserved(Waiter {
-                    station,
-                    lock,
-                    number,
-                });
-                done(Sent::Nothing)
+                self.waiting.push_reserved(claim.waiter());
+                Sent::Nothing
             }
         }
     }
 
     // A request is new if its number is the next one and its station does not wait. An earlier one that no longer waits is granted again.
-    pub fn request(&mut self, station: u8, lock: u8, number: u32) -> Answer
-        requires station_known { station < 16 }
-        requires lock_known { lock < 64 }
-        ensures { reply_of result (table_of self.new) ≡ requests (table_of self.old) station lock number }
+    pub fn request(&mut self, claim: Claim) -> Result<Sent, Refused>
+        ensures { reply_of result (table_of self.new) ≡ requests (table_of self.old) claim.station claim.lock claim.number }
     {
-        let last = self.requested[station as usize];
-        if number > last && number - last == 1 && !waits(self.waiting.as_slice(), station) {
-            return self.admit(station, lock, number);
+        let last = self.requested[claim.station as usize];
+        if last.checked_add(1) == Some(claim.number) && !waits(&self.waiting, claim.station) {
+            return Ok(self.admit(claim));
         }
-        if number <= last && !still_waits(self.waiting.as_slice(), station, number) {
-            return refused(
-                Refusal::StaleNumber,
-                Sent::One(Message::LockGranted {
-                    station,
-                    lock,
-                    number,
-                }),
-            );
+        if claim.number <= last && !still_waits(&self.waiting, claim.station, claim.number) {
+            return Err(Refused {
+                why: Refusal::StaleNumber,
+                sent: Sent::One(claim.granted()),
+            });
         }
-        refused(Refusal::StaleNumber, Sent::Nothing)
+        Err(Refusal::StaleNumber.into())
     }
 
+    #[tactic(auto, using(crate::proofs::Once::still_once))]
     // The holder gives the lock back, and the first that waits for it holds it.
-    fn pass_on(&mut self, station: u8, lock: u8, number: u32) -> Answer
-        requires lock_known { lock < 64 }
-        ensures { reply_of result (table_of self.new) ≡ passed_on (table_of self.old) station lock number (first_for lock self.old.waiting.items) }
+    fn pass_on(&mut self, claim: Claim) -> Sent
+        ensures { done (sent_of result) (table_of self.new) ≡ passed_on (table_of self.old) claim.station claim.lock claim.number (first_for claim.lock self.old.waiting.items) }
     {
-        let taken = Message::ReleaseTaken {
-            station,
-            lock,
-            number,
-        };
-        match take_first(&mut self.waiting, lock) {
+        match take_first(&mut self.waiting, claim.lock) {
             None => {
-                self.holders[lock as usize] = None;
-                done(Sent::One(taken))
+                self.holders[claim.lock as usize] = None;
+                Sent::One(claim.release_taken())
             }
             Some(next) => {
-                self.holders[lock as usize] = Some(Holder {
+                self.holders[claim.lock as usize] = Some(Holder {
                     station: next.station,
                     number: next.number,
                 });
-                done(Sent::Two(
-                    taken,
-                    Message::LockGranted {
-                        station: next.station,
-                        lock,
-                        number: next.number,
-                    },
-                ))
+                let granted = Message::LockGranted {
+                    station: next.station,
+                    lock: claim.lock,
+                    number: next.number,
+                };
+                Sent::Two(claim.release_taken(), granted)
             }
         }
     }
 
     // Taken from the holder with that number only. Any other that is not above the station's last, and does not wait, is answered again.
-    pub fn release(&mut self, station: u8, lock: u8, number: u32) -> Answer
-        requires station_known { station < 16 }
-        requires lock_known { lock < 64 }
-        ensures { reply_of result (table_of self.new) ≡ releases (table_of self.old) station lock number }
+    pub fn release(&mut self, claim: Claim) -> Result<Sent, Refused>
+        ensures { reply_of result (table_of self.new) ≡ releases (table_of self.old) claim.station claim.lock claim.number }
     {
-        if is_held_by(self.holders[lock as usize], station, number) {
-            return self.pass_on(station, lock, number);
+        let holder = self.holders[claim.lock as usize];
+        if holder == Some(claim.holder()) {
+            return Ok(self.pass_on(claim));
         }
-        if number <= self.requested[station as usize]
-            && !still_waits(self.waiting.as_slice(), station, number)
+        if claim.number <= self.requested[claim.station as usize]
+            && !still_waits(&self.waiting, claim.station, claim.number)
         {
-            return refused(
-                Refusal::StaleNumber,
-                Sent::One(Message::ReleaseTaken {
-                    station,
-                    lock,
-                    number,
-                }),
-            );
+            return Err(Refused {
+                why: Refusal::StaleNumber,
+                sent: Sent::One(claim.release_taken()),
+            });
         }
-        refused(Refusal::StaleNumber, Sent::Nothing)
-    }
-}
-
-fn is_held_by(holder: Option<Holder>, station: u8, number: u32) -> bool
-    ensures { result ≡ is_held_by station number holder }
-{
-    match holder {
-        Some(held) => held.station == station && held.number == number,
-        None => false,
+        Err(Refusal::StaleNumber.into())
     }
 }

@@ -1,104 +1,114 @@
-// What the home does with each message, over its tables lent.
-ghost use Rattle.std.specs.Prelude.{◌≡◌, ◌<◌, length, None};
+// What the home does with each message.
+ghost use Rattle.std.specs.Prelude.{◌≡◌, ◌<◌, IfOk, Ok};
 ghost use Rattle.model.specs.declared.Message.TheVariants.{PageReply};
-ghost use Rattle.model.specs.Home.{applies, hears, page_at};
-ghost use Rattle.pages.specs.Memory.{memory};
-ghost use Rattle.home_node.specs.declared.answer.Sent.TheVariants.{One};
-ghost use Rattle.model.specs.Locks.{LockTable};
+ghost use Rattle.model.specs.Home.{applies, fresh, hears, page_at};
 ghost use Rattle.promise.specs.Ranges.{Known};
+ghost use Rattle.home_node.specs.declared.answer.Sent.TheVariants.{One};
 ghost use Rattle.home_node.specs.Answers.{reply_of};
-ghost use Rattle.home_node.specs.Tables.{state_at, table_of};
+ghost use Rattle.home_node.specs.Tables.{state_of};
 
-use crate::answer::{Answer, Sent, done, refused};
+use crate::answer::{Refused, Sent};
 use crate::locks::Locks;
-use basics::Refusal;
+use crate::locks::claim::Claim;
+use crate::node::state::State;
+use basics::{Refusal, WORDS};
 use model::Message;
 use pages::{page_words, patch};
+use std::alloc::{AllocError, Global};
 
-pub fn hear(
-    words: &mut [u32],
-    applied: &mut [u32; 16],
-    locks: &mut Locks,
-    message: &Message,
-) -> Answer
-    requires whole { length words.old ≡ 65536 }
-    requires known { Known message.now }
-    ensures { reply_of result (state_at words.new applied.new (table_of locks.new)) ≡ hears (state_at words.old applied.old (table_of locks.old)) message.now }
-{
-    match *message {
-        Message::PageRequest {
-            station,
-            page,
-            number,
-        } => give_page(words, station, page, number),
-        Message::Diff {
-            station,
-            number,
-            page,
-            changes,
-        } => put_diff(words, applied, station, number, page, &changes),
-        Message::LockRequest {
-            station,
-            lock,
-            number,
-        } => locks.request(station, lock, number),
-        Message::LockReleased {
-            station,
-            lock,
-            number,
-        } => locks.release(station, lock, number),
-        // these go to stations
-        Message::PageReply { .. }
-        | Message::DiffApplied { .. }
-        | Message::LockGranted { .. }
-        | Message::ReleaseTaken { .. } => refused(Refusal::Malformed, Sent::Nothing),
+impl State {
+    // All words 0, no diff put in, no lock held.
+    pub fn new(heap: Global) -> Result<State, AllocError>
+        ensures { IfOk result (λ s. state_of s ≡ fresh) }
+    {
+        Ok(State {
+            words: vec![in heap; 0; WORDS]?,
+            applied: [0; 16],
+            locks: Locks::new(heap)?,
+        })
     }
-}
 
-// The page as it is now.
-fn give_page(words: &[u32], station: u8, page: u16, number: u32) -> Answer
-    requires whole { length words.now ≡ 65536 }
-    requires known { page < 1024 }
-    ensures { result ≡ record { refusal = None; sent = One (PageReply station page number (page_at page (memory words.now))) } }
-{
-    match page_words(words, page) {
-        Ok(words) => done(Sent::One(Message::PageReply {
+    pub fn hear(&mut self, message: &Message) -> Result<Sent, Refused>
+        requires known { Known message.now }
+        ensures { reply_of result (state_of self.new) ≡ hears (state_of self.old) message.now }
+    {
+        match *message {
+            Message::PageRequest {
+                station,
+                page,
+                number,
+            } => self.give_page(station, page, number),
+            Message::Diff {
+                station,
+                number,
+                page,
+                changes,
+            } => self.put_diff(station, number, page, &changes),
+            Message::LockRequest {
+                station,
+                lock,
+                number,
+            } => self.locks.request(Claim {
+                station,
+                lock,
+                number,
+            }),
+            Message::LockReleased {
+                station,
+                lock,
+                number,
+            } => self.locks.release(Claim {
+                station,
+                lock,
+                number,
+            }),
+            // these go to stations
+            Message::PageReply { .. }
+            | Message::DiffApplied { .. }
+            | Message::LockGranted { .. }
+            | Message::ReleaseTaken { .. } => Err(Refusal::Malformed.into()),
+        }
+    }
+
+    // The page as it is now.
+    fn give_page(&self, station: u8, page: u16, number: u32) -> Result<Sent, Refused>
+        requires page_known { page < 1024 }
+        ensures { result ≡ Ok (One (PageReply station page number (page_at page (state_of self.now).words))) }
+    {
+        let words = page_words(&self.words, page)?;
+        Ok(Sent::One(Message::PageReply {
             station,
             page,
             number,
             words,
-        })),
-        Err(why) => refused(why, Sent::Nothing),
+        }))
     }
-}
 
-// A diff is put in if its number is the next one of its station; an earlier one is only answered again.
-fn put_diff(
-    words: &mut [u32],
-    applied: &mut [u32; 16],
-    station: u8,
-    number: u32,
-    page: u16,
-    changes: &[Option<u32>; 64],
-) -> Answer
-    requires whole { length words.old ≡ 65536 }
-    requires station_known { station < 16 }
-    requires page_known { page < 1024 }
-    ensures { (locks : LockTable) → reply_of result (state_at words.new applied.new locks) ≡ applies (state_at words.old applied.old locks) station number page changes.now }
-{
-    let last = applied[station as usize];
-    let answer = Message::DiffApplied { station, number };
-    if number <= last {
-        return refused(Refusal::StaleNumber, Sent::One(answer));
-    }
-    if number - last > 1 {
-        return refused(Refusal::StaleNumber, Sent::Nothing);
-    }
-    match patch(words, page, changes) {
-        Ok(()) => {
-            applied[station as usize] = number;
-            done(Sent::One(answer))
+    // A diff is put in if its number is the next one of its station; an earlier one is only answered again.
+    fn put_diff(
+        &mut self,
+        station: u8,
+        number: u32,
+        page: u16,
+        changes: &[Option<u32>; 64],
+    ) -> Result<Sent, Refused>
+        requires station_known { station < 16 }
+        requires page_known { page < 1024 }
+        ensures { reply_of result (state_of self.new) ≡ applies (state_of self.old) station number page changes.now }
+    {
+        let last = self.applied[station as usize];
+        let sent = Sent::One(Message::DiffApplied { station, number });
+        if number <= last {
+            return Err(Refused {
+                why: Refusal::StaleNumber,
+                sent,
+            });
         }
-        Err(why) => refused(why, Sent::Nothing),
+        if number - last > 1 {
+            return Err(Refusal::StaleNumber.into());
+        }
+        patch(&mut self.words, page, changes)?;
+        self.applied[station as usize] = number;
+        Ok(sent)
     }
 }

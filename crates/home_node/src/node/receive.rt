@@ -1,20 +1,15 @@
 // What comes in, and what is answered.
-ghost use Rattle.std.specs.Prelude.{◌≡◌, ℕ, List, replicate, IfOk, if◌then◌else◌, Some, Ok, Err};
+ghost use Rattle.std.specs.Prelude.{◌≡◌, ℕ, List, IfOk, OnErr, if◌then◌else◌, Ok, Err};
 ghost use Rattle.basics.specs.declared.Refusal.TheVariants.{Malformed};
-ghost use Rattle.model.specs.Bytes.{parse};
 ghost use Rattle.model.specs.Home.{fresh, receives};
-ghost use Rattle.model.specs.Locks.{unlocked};
 ghost use Rattle.basics.specs.Sizes.{is_word};
 ghost use Rattle.home_node.specs.Answers.{reply_of};
 ghost use Rattle.home_node.specs.Homes.{home_of, Onward};
-ghost use Rattle.home_node.specs.Tables.{table_of};
 
-use crate::answer::{Answer, Sent, refused};
-use crate::locks::Locks;
+use crate::answer::{Refused, Sent};
 use crate::node::Home;
-use crate::node::hear::hear;
+use crate::node::state::State;
 use basics::{Refusal, WORDS};
-use model::Message;
 use std::alloc::{AllocError, Global};
 use wire::decode;
 
@@ -23,9 +18,9 @@ impl Home {
     pub fn new(heap: Global) -> Result<Home, AllocError>
         ensures { IfOk result (λ h. home_of h ≡ fresh) }
     {
-        let words = zeros(heap)?;
-        let locks = Locks::new(heap)?;
-        Ok(blank(words, [0; 16], locks))
+        Ok(Home {
+            state: State::new(heap)?,
+        })
     }
 
     // A word as it is now.
@@ -35,53 +30,16 @@ impl Home {
         if word as usize >= WORDS {
             return Err(Refusal::Malformed);
         }
-        Ok(self.words[word as usize])
+        Ok(self.state.words[word as usize])
     }
 
     // Any bytes at all: done or refused as the rules say. A refusal changes nothing, and every promise of the home is kept afterwards.
-    pub fn receive(&mut self, bytes: &[u8]) -> Answer
+    pub fn receive(&mut self, bytes: &[u8]) -> Result<Sent, Refused>
         ensures answer { reply_of result (home_of self.new) ≡ receives (home_of self.old) bytes.now }
-        ensures unchanged { (why : Refusal) → result.refusal ≡ Some why → home_of self.new ≡ home_of self.old }
+        ensures unchanged { OnErr result (home_of self.new ≡ home_of self.old) }
         ensures promises { ∥ ((seen : List (List ℕ)) × Onward (home_of self.old) (home_of self.new) bytes.now seen) ∥₁ }
     {
-        self.hear_read(bytes, decode(bytes))
-    }
-
-    // The bytes, and what was read of them.
-    fn hear_read(&mut self, bytes: &[u8], read: Result<Message, Refusal>) -> Answer
-        requires { read ≡ parse bytes.now }
-        ensures answer { reply_of result (home_of self.new) ≡ receives (home_of self.old) bytes.now }
-        ensures unchanged { (why : Refusal) → result.refusal ≡ Some why → home_of self.new ≡ home_of self.old }
-        ensures promises { ∥ ((seen : List (List ℕ)) × Onward (home_of self.old) (home_of self.new) bytes.now seen) ∥₁ }
-    {
-        match read {
-            Ok(message) => hear(
-                self.words.as_mut_slice(),
-                &mut self.applied,
-                &mut self.locks,
-                &message,
-            ),
-            Err(why) => refused(why, Sent::Nothing),
-        }
-    }
-}
-
-fn zeros(heap: Global) -> Result<Vec<u32>, AllocError>
-    ensures { IfOk result (λ words. words.items ≡ replicate 65536 0) }
-{
-    vec![in heap; 0; WORDS]
-}
-
-// A home to which nothing has come in yet.
-fn blank(words: Vec<u32>, applied: [u32; 16], locks: Locks) -> Home
-    requires words { words.items ≡ replicate 65536 0 }
-    requires applied { applied ≡ replicate 16 0 }
-    requires locks { table_of locks ≡ unlocked }
-    ensures { home_of result ≡ fresh }
-{
-    Home {
-        words,
-        applied,
-        locks,
+        let message = decode(bytes)?;
+        self.state.hear(&message)
     }
 }

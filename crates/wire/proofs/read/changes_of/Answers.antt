@@ -1,27 +1,24 @@
-use Rattle.std.proofs.Common.{arith}
-use Rattle.wire.proofs.Changes.{at_first, now_taken, now_other, all_read, all_left}
+use Rattle.std.proofs.Common.{inl, inr, arith}
+use Rattle.wire.proofs.Changes.{at_first, ended, turned_away, one_more}
 use Rattle.wire.proofs.read.changes_of.Goals as goal
-use Rattle.wire.proofs.read.changes_of.Goals.{then-at-bytes+then-bytes-at, else-at-bytes, else-at-bytes-via-then-at-bytes+else-bytes-at, else-at-bytes-via-else-at-bytes}
+use Rattle.wire.proofs.read.changes_of.Goals.{then-place-next-via-then-place-next, then-place-next-via-else-place-next+then-place-ge-PAGE_WORDS}
 
-pub loop-place-init : goal.loop-place-init
-loop-place-init c = at_first c.args.bytes.now c.requires.head c.requires.whole
+pub loop-change-init : goal.loop-change-init
+loop-change-init c = at_first c.args.bytes.now c.requires.whole
 
-pub loop-place-preserved : goal.loop-place-preserved
-loop-place-preserved c =
-    let k = c.loop-place in
-    elim c.if-at-bytes.branch [
-      | then-at-bytes+then-bytes-at w ↦
-          now_taken c.args.bytes.now k.place k.at k.changes k.invariant c.loop-place-test.true w.if-at-bytes.true w.if-bytes-at.true w.u32_at.ensures w.at-is w.changes-is
-      | else-at-bytes w ↦
-          now_other c.args.bytes.now k.place k.at k.changes k.invariant c.loop-place-test.true
-          (elim w.else-at-bytes.branch [
-            | else-at-bytes-via-then-at-bytes+else-bytes-at v ↦ λ l. v.if-bytes-at.false
-            | else-at-bytes-via-else-at-bytes v ↦ λ l e. omega (arith, v.if-at-bytes.false)
-          ])
-          w.at-is w.changes-is
-    ]
+pub loop-change-preserved : goal.loop-change-preserved
+loop-change-preserved c =
+    let read = c.as_chunks.ensures in
+    one_more c.args.bytes.now _ _ _ c.loop-change.invariant _ read.front read.front_len c.loop-change-test.true _ (omega arith) c.if-place-next.false c.if-place-ge-PAGE_WORDS.false
+
+pub returns-then-place-next : goal.returns-then-place-next
+returns-then-place-next c =
+    let read = c.as_chunks.ensures in
+    turned_away c.args.bytes.now _ _ _ c.loop-change.invariant _ read.front read.front_len c.loop-change-test.true
+    (elim c.then-place-next.branch [
+      | then-place-next-via-then-place-next w ↦ inl w.if-place-next.true
+      | then-place-next-via-else-place-next+then-place-ge-PAGE_WORDS w ↦ inr w.if-place-ge-PAGE_WORDS.true
+    ])
 
 pub returns : goal.returns
-returns c =
-    let k = c.loop-place in
-    record { changes = all_read c.args.bytes.now k.place k.at k.changes k.invariant (omega arith); end = all_left c.args.bytes.now k.place k.at k.changes k.invariant (omega arith) }
+returns c = ended c.args.bytes.now _ _ _ c.loop-change.invariant (omega arith)

@@ -1,5 +1,5 @@
-use Rattle.wire.proofs.Changes.{SoFar}
+use Rattle.wire.proofs.Changes.{Taken}
 use Rattle.wire.proofs.read.changes_of.Given as goal
 
-abbrev pub invariant-loop-place : goal.invariant-loop-place
-invariant-loop-place l = SoFar l.bytes l.place l.at l.changes
+abbrev pub invariant-loop-change : goal.invariant-loop-change
+invariant-loop-change l = Taken l.bytes l.next l.change-index l.changes

@@ -6,7 +6,7 @@ use Rattle.wire.proofs.write.push_changes.Goals.{in-Some+in_ok-extend_from_slice
 pub loop-place-preserved : goal.loop-place-preserved
 loop-place-preserved c =
     let k = c.loop-place in
-    elim c.match-changes-place.branch [
+    elim c.match-change.branch [
       | in-Some+in_ok-extend_from_slice w ↦
           some_more c.args.changes.now k.place _ _ k.invariant _ _ _ (omega arith) w.in-Some.is w.change_bytes.ensures (ap vec_items w.out-is ∙ w.in_ok-extend_from_slice.ensures.items)
       | in_default w ↦

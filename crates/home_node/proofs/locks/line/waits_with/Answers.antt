@@ -1,18 +1,14 @@
-use Rattle.std.proofs.Common.{sym, ◌∙◌, arith}
-use Rattle.home_node.proofs.Lines.{waits_here, waits_on, waits_none}
+use Rattle.std.proofs.Common.{rules, ◌≡◌, eqb, ◌∙◌}
+use borrow.Author.Tests.{tests}
+use Rattle.std.specs.Option.{option_map}
+use Rattle.std.proofs.lemmas.Iterator.{YieldsList-from_slice}
+use Rattle.std.proofs.lemmas.Iterator.Search.{find_from_yields_List}
+use Rattle.model.specs.declared.Waiter.{Waiter}
+use Rattle.home_node.proofs.Lines.{number_found}
 use Rattle.home_node.proofs.locks.line.waits_with.Goals as goal
-
-pub returns-then-waiter-station : goal.returns-then-waiter-station
-returns-then-waiter-station c =
-    let k = c.loop-waiter in
-    sym (k.invariant ∙ waits_here c.args.station c.args.waiting.now k.waiter-index _ (omega arith) c.if-waiter-station.true)
-
-pub loop-waiter-preserved : goal.loop-waiter-preserved
-loop-waiter-preserved c =
-    let k = c.loop-waiter in
-    k.invariant ∙ waits_on c.args.station c.args.waiting.now k.waiter-index _ (omega arith) c.if-waiter-station.false
 
 pub returns : goal.returns
 returns c =
-    let k = c.loop-waiter in
-    sym (k.invariant ∙ waits_none c.args.station c.args.waiting.now k.waiter-index (omega arith))
+    let f = find_from_yields_List (λ (w : Waiter). eqb w.station c.args.station) _ _ c.find.result c.find.ensures.ran (YieldsList-from_slice c.args.waiting.now cc) (λ x b q k. search (rules, tests)) in
+    let e : c.map.result ≡ option_map (λ w. w.now.number) c.find.result = search (rules, tests) in
+    e ∙ number_found (λ w. w.now) c.find.result c.args.station c.args.waiting.now f
