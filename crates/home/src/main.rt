@@ -1,7 +1,6 @@
 // The home as a program: messages in hexadecimal come in, one to a line, and what the home sends goes out.
 #![tactic(auto)]
 
-use anyhow::anyhow;
 use home_lines::respond;
 use home_node::Home;
 use std::io::{BufRead, BufReader, BufWriter, Write};
@@ -14,22 +13,20 @@ fn run(rt: &HostRuntime) -> anyhow::Result<()> {
     let mut output = BufWriter::new(heap, rt.stdout())?;
     let mut line = Vec::new(heap);
     let mut answer = Vec::new(heap);
+    // counted, since a loop that waits on input needs a bound; `lines` would keep the reader, whose buffer tells when to write out
     for _ in 0..u64::MAX {
         line.clear();
         if input.read_until(b'\n', &mut line)? == 0 {
             break;
         }
         answer.clear();
-        if respond(
+        let text = line.as_slice();
+        respond(
             heap,
             &mut home,
-            without_newline(line.as_slice()),
+            text.strip_suffix(b"\n").unwrap_or(text),
             &mut answer,
-        )
-        .is_err()
-        {
-            return Err(anyhow!("out of memory"));
-        }
+        )?;
         output.write_all(answer.as_slice())?;
         if input.buffer().is_empty() {
             output.flush()?;
@@ -37,13 +34,6 @@ fn run(rt: &HostRuntime) -> anyhow::Result<()> {
     }
     output.flush()?;
     Ok(())
-}
-
-fn without_newline(line: &[u8]) -> &[u8] {
-    match line {
-        [text @ .., b'\n'] => text,
-        _ => line,
-    }
 }
 
 fn main(rt: HostRuntime) -> anyhow::Result<()> {

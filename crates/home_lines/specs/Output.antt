@@ -7,7 +7,7 @@ use Rattle.basics.specs.declared.Refusal.TheVariants.{Malformed}
 use Rattle.model.specs.Bytes.{bytes_of}
 use Rattle.model.specs.Home.{HomeState, receives}
 use Rattle.basics.specs.Sizes.{is_word}
-use Rattle.lines.specs.Lines.{line, refusal_line}
+use Rattle.basics.specs.Lines.{line, refusal_line}
 use Rattle.text.specs.Hex.{hex_of}
 use Rattle.text.specs.Line.{Meaning, Nothing, ShowWord, Bytes}
 

@@ -1,8 +1,16 @@
--- What one digit more makes of a number, and what one turn of a loop over its digits keeps.
-use Rattle.std.proofs.Common.{◌≡◌, ℕ, ◌+◌, ◌-◌, ◌*◌, ◌/◌, ◌%◌, ◌^◌, ◌<◌, ◌≤◌, true, List, [], ◌∷◌, ◌++◌, length, get_or, take, drop, set, Some, None, decimal, sym, refl, ap, ◌∙◌, arith, rules}
+-- What one digit more makes of a number, what a fold over digits reads, and that written digits are read back.
+use Rattle.std.proofs.Common.{◌≡◌, ℕ, ◌+◌, ◌-◌, ◌*◌, ◌^◌, ◌<◌, ◌≤◌, true, List, [], ◌∷◌, length, Some, None, Option, Bor, decimal, sym, refl, ap, ◌∙◌, arith, rules}
+use denote.Param.Members.{Mut}
+use Rattle.std.specs.Fn.{Called}
+use Rattle.std.specs.Iterator.{Yields, YieldsThen}
+use Rattle.std.specs.List.{FoldsTo}
+use Rattle.std.specs.Option.{MatchOption}
+use Rattle.std.specs.Slice.Iter.{iter_rest}
 use Rattle.std.specs.Str.{all_ascii_digits}
-use Rattle.std.proofs.lemmas.Fmt.{decimal_digit, decimal_step, decimal_nonempty, digits_decimal, length-decimal-le, digits_value-decimal}
-use Rattle.std.proofs.lemmas.List.{append_assoc, at_drop_all, at_drop_more, drop-set, length-append, length-drop, length-set, take_all}
+use Rattle.std.specs.declared.slice.Iter.{Iter}
+use Rattle.std.proofs.lemmas.Fmt.{decimal_nonempty, digits_decimal, digits_value-decimal}
+use Rattle.std.proofs.lemmas.Fn.{fronts}
+use Rattle.std.proofs.lemmas.List.{nil_from_length}
 use Rattle.std.proofs.lemmas.Str.Parse.{IsNumeralModel, numerals_by_fold, tells_all_ascii_digits}
 use Rattle.std.proofs.lemmas.Bool.{cond_below}
 use Rattle.std.proofs.lemmas.Bool.Decides.{nat_tests}
@@ -19,30 +27,34 @@ one_digit n d m ds h = grind (arith, nat_tests)
 no_digit : (n d : ℕ) (ds : List ℕ) → number_after n (d ∷ []) ≡ None → number_after n (d ∷ ds) ≡ None
 no_digit n d ds h = grind (arith, nat_tests, never_smaller (n * 10 + (d - 48)) ds)
 
-whole : (ds : List ℕ) → (length ds ≡ 0 → ⊥) → number_of ds ≡ number_after 0 ds
+fits : (n d m : ℕ) → number_after n (d ∷ []) ≡ Some m → m < 2 ^ 32
+fits n d m h = grind (arith, nat_tests)
+
+pub whole : (ds : List ℕ) → (length ds ≡ 0 → ⊥) → number_of ds ≡ number_after 0 ds
 whole [] some = absurd (some refl)
 whole (d ∷ ds) some = refl
 
--- n is what the first i digits write
-pub record Reads (ds : List ℕ) (n i : ℕ) : Type 0 where
-  pub same : number_after n (drop i ds) ≡ number_after 0 ds
-  pub fits : n < 2 ^ 32
+-- a closure g that puts one digit more to a number
+module _ {F : Type 0} (g : Mut F (ℕ × (Bor ℕ × Unit {0})) (Option ℕ)) (says : (f f' : F) (n : ℕ) (x : Bor ℕ) (o : Option ℕ) → Called g f (n, (x, tt)) o f' → o ≡ number_after n (x.now ∷ [])) where
+  abbrev pub Goes : F × ℕ → Bor ℕ → F × ℕ → Type 0
+  Goes p x q = (o : Option ℕ) × Called g p.0 (p.1, (x, tt)) o q.0 × (o ≡ Some q.1)
 
-module _ (ds : List ℕ) {n i : ℕ} (r : Reads ds n i) where
-  pub goes_on : {m : ℕ} → i < length ds → number_after n (get_or ds i 0 ∷ []) ≡ Some m → Reads ds m (i + 1)
-  goes_on {m} more h = record {
-    same = sym (one_digit n (get_or ds i 0) m (drop (i + 1) ds) h) ∙ sym (at_drop_more (number_after n) ds i 0 more) ∙ r.same;
-    fits = grind (arith, nat_tests);
-  }
+  goes_on : (xs : List (Bor ℕ)) (s t : Iter ℕ) (p q : F × ℕ) → Yields fronts s xs t → FoldsTo Goes p xs q → p.1 < 2 ^ 32 → (number_after p.1 (iter_rest s) ≡ number_after q.1 (iter_rest t)) × (q.1 < 2 ^ 32)
+  goes_on [] s t p q y c small = (ap (λ i. number_after p.1 (iter_rest i)) y ∙ ap (λ k. number_after k.1 (iter_rest t)) c, rw c at small)
+  goes_on (x ∷ xs) s t p q (i, first, y) (m, (o, call, some), c) small =
+      let one = sym (says _ _ _ _ _ call) ∙ some in
+      let later = goes_on xs i t m q y c (fits p.1 x.now m.1 one) in
+      (ap (number_after p.1) first ∙ one_digit p.1 x.now m.1 (iter_rest i) one ∙ later.0, later.1)
 
-  pub stops : i < length ds → (length ds ≡ 0 → ⊥) → number_after n (get_or ds i 0 ∷ []) ≡ None → number_of ds ≡ None
-  stops more some h = whole ds some ∙ sym r.same ∙ at_drop_more (number_after n) ds i 0 more ∙ no_digit n (get_or ds i 0) (drop (i + 1) ds) h
-
-  pub ends : length ds ≤ i → (length ds ≡ 0 → ⊥) → number_of ds ≡ Some n
-  ends all some =
-      let small = r.fits in
-      let last : number_after n [] ≡ Some n = grind (arith, nat_tests) in
-      whole ds some ∙ sym r.same ∙ at_drop_all (number_after n) ds i all ∙ last
+  -- what `try_fold` answers
+  pub folded : {E : Type 0} (s u : Iter ℕ) (f : F) (r : Option ℕ) → (xs : List (Bor ℕ)) × (o : Option (Bor ℕ)) × (h : F) × (n : ℕ) × YieldsThen fronts s xs o u × FoldsTo Goes (f, 0) xs (h, n) × MatchOption o (r ≡ Some n) (λ x. (v : Option ℕ) × (k : F) × E × Called g h (n, (x, tt)) v k × (v ≡ None) × (r ≡ None)) → r ≡ number_after 0 (iter_rest s)
+  folded s u f r (xs, None, h, n, (t, y, ended), c, is) =
+      let read = goes_on xs s t (f, 0) (h, n) y c (omega arith) in
+      let whole : number_after n [] ≡ Some n = sym (cond_below n (2 ^ 32) (Some n) None read.1) in
+      is ∙ sym (read.0 ∙ ap (number_after n) (nil_from_length (iter_rest t) ended.0) ∙ whole)
+  folded s u f r (xs, Some x, h, n, (t, y, next), c, (v, k, e, call, none, is)) =
+      let read = goes_on xs s t (f, 0) (h, n) y c (omega arith) in
+      is ∙ sym (read.0 ∙ ap (number_after n) next ∙ no_digit n x.now (iter_rest u) (sym (says _ _ _ _ _ call) ∙ none))
 
 own : IsNumeralModel (λ ds. all_ascii_digits ds ≡ true) (value_after 0)
 own = numerals_by_fold _ tells_all_ascii_digits value_after (search rules)
@@ -53,40 +65,3 @@ comes_back n small =
     let digits = digits_decimal own n wide in
     let value = digits_value-decimal own n wide in
     whole (decimal n) (λ e. omega (arith, decimal_nonempty n wide)) ∙ rw (digits, value) (sym (cond_below n (2 ^ 32) (Some n) None small))
-
--- the digits of n from `at` on are written, and those of rest are still to write
-pub record Writes (n rest at : ℕ) (digits : List ℕ) : Type 0 where
-  pub split : decimal rest ++ drop at digits ≡ decimal n
-  pub less : rest ≤ n
-  pub within : at ≤ 10
-  pub long : length digits ≡ 10
-
-module _ {n rest at : ℕ} {digits : List ℕ} (small : n < 2 ^ 32) (w : Writes n rest at digits) where
-  -- no number of 32 bits has more than ten digits, and some are left
-  pub room : 1 ≤ at
-  room =
-      let whole = ap length w.split in
-      let less = w.less in
-      omega (arith, simp (length-append, length-drop) at whole, w.long, w.within, length-decimal-le 10 n (omega arith) (omega arith) (omega arith), decimal_nonempty rest (omega arith))
-
-  put_digit : (x : ℕ) → drop (at - 1) (set digits (at - 1) x) ≡ x ∷ drop at digits
-  put_digit x =
-      let more = room in
-      let back : at - 1 + 1 ≡ at = omega arith in
-      drop-set digits (at - 1) x (omega (arith, w.long, w.within)) ∙ ap (λ i. x ∷ drop i digits) back
-
-  pub writes_more : 10 ≤ rest → Writes n (rest / 10) (at - 1) (set digits (at - 1) (48 + rest % 10))
-  writes_more many =
-      let less = w.less in
-      record {
-        split = ap (λ l. decimal (rest / 10) ++ l) (put_digit (48 + rest % 10)) ∙ sym (append_assoc (decimal (rest / 10)) ((48 + rest % 10) ∷ []) (drop at digits)) ∙ ap (λ l. l ++ drop at digits) (sym (decimal_step rest many (omega arith))) ∙ w.split;
-        less = omega arith;
-        within = omega (arith, w.within);
-        long = length-set digits (at - 1) (48 + rest % 10) ∙ w.long;
-      }
-
-  pub writes_last : rest < 10 → take (10 - (at - 1)) (drop (at - 1) (set digits (at - 1) (48 + rest))) ≡ decimal n
-  writes_last one =
-      let done = set digits (at - 1) (48 + rest) in
-      let long : length (drop (at - 1) done) ≤ 10 - (at - 1) = omega (arith, length-drop (at - 1) done, length-set digits (at - 1) (48 + rest), w.long) in
-      take_all (10 - (at - 1)) (drop (at - 1) done) long ∙ put_digit (48 + rest) ∙ ap (λ l. l ++ drop at digits) (sym (decimal_digit rest one)) ∙ w.split

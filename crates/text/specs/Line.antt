@@ -1,8 +1,7 @@
 -- The words of a line, and what a line of the program `home` means.
-use Rattle.std.specs.Prelude.{ℕ, Bool, true, false, cond, ◌&&◌, ◌||◌, List, [], ◌∷◌, length, take, drop, Some, None, vec_items, codes, Option, ◌==◌}
-use Rattle.std.specs.Bool.{beq}
+use Rattle.std.specs.Prelude.{ℕ, Bool, true, cond, ◌&&◌, ◌||◌, List, [], ◌∷◌, length, drop, Some, None, vec_items, codes, Option, ◌==◌}
 use Rattle.std.specs.Option.{option_map}
-use Rattle.std.specs.List.{prefix_len}
+use Rattle.std.specs.List.{prefix_len, position_or_len, before_first}
 use Rattle.std.specs.Str.{bytes_eq}
 use Rattle.text.specs.declared.lines.HomeLine.{HomeLine}
 use Rattle.text.specs.declared.lines.HomeLine.TheVariants.{Blank, Show, Message}
@@ -13,20 +12,17 @@ use Rattle.text.specs.Number.{number_of}
 abbrev pub white : ℕ → Bool
 white c = c == 32 || (c == 9 || c == 13)
 
--- whether a byte is white space is as asked
-abbrev pub alike : Bool → ℕ → Bool
-alike asked c = beq (white c) asked
-
+-- what follows the white space in front
 abbrev pub skipped : List ℕ → List ℕ
-skipped bs = drop (prefix_len (alike true) bs) bs
+skipped bs = drop (prefix_len white bs) bs
 
 -- the longest run without white space, after the white space in front; none where the line has no word
 abbrev pub first_word : List ℕ → List ℕ
-first_word bs = take (prefix_len (alike false) (skipped bs)) (skipped bs)
+first_word bs = before_first white (skipped bs)
 
 -- what follows that word
 abbrev pub after_word : List ℕ → List ℕ
-after_word bs = drop (prefix_len (alike false) (skipped bs)) (skipped bs)
+after_word bs = drop (position_or_len white (skipped bs)) (skipped bs)
 
 abbrev pub wordless : List ℕ → Bool
 wordless bs = length (first_word bs) == 0

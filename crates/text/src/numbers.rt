@@ -1,9 +1,9 @@
 // Decimal numbers of 32 bits.
-ghost use Rattle.std.specs.Prelude.{◌≡◌, ◌+◌, ◌<◌, [], ◌∷◌, ◌++◌, length, is_ok, IfErr, if◌then◌else◌, vec_len, vec_capacity, decimal, OnErr};
-ghost use Rattle.text.specs.declared.Fault.TheVariants.{Memory};
+ghost use Rattle.std.specs.Prelude.{◌≡◌, ◌+◌, ◌<◌, [], ◌∷◌, ◌++◌, length, is_ok, if◌then◌else◌, vec_len, vec_capacity, decimal, OnErr};
 ghost use Rattle.text.specs.Number.{number_of, number_after, NumberComesBack};
 
-use crate::Fault;
+use itoa::Buffer;
+use std::alloc::AllocError;
 
 // The number `n` with one digit more, if that is a digit and the number still fits.
 fn with_digit(n: u32, digit: u8) -> Option<u32>
@@ -22,36 +22,19 @@ pub fn number(digits: &[u8]) -> Option<u32>
     if digits.is_empty() {
         return None;
     }
-    let mut n = 0;
-    for digit in digits {
-        n = with_digit(n, *digit)?;
-    }
-    Some(n)
+    digits.iter().try_fold(0, |n, digit| with_digit(n, *digit))
 }
 
 // Appends the digits of `n`. It appends none where they find no room and memory gives none.
-pub fn push_number(out: &mut Vec<u8>, n: u32) -> Result<(), Fault>
+pub fn push_number(out: &mut Vec<u8>, n: u32) -> Result<(), AllocError>
     ensures items { out.new.items ≡ (if is_ok result then out.old.items ++ decimal n else out.old.items) }
-    ensures refused { IfErr result (λ e. e ≡ Memory) }
     ensures full { OnErr result (vec_capacity out.old < vec_len out.old + length (decimal n)) }
 {
-    let mut digits = [0; 10];
-    let mut at = 10;
-    let mut rest = n;
-    while rest >= 10 {
-        at -= 1;
-        digits[at] = b'0' + (rest % 10) as u8;
-        rest /= 10;
-    }
-    at -= 1;
-    digits[at] = b'0' + rest as u8;
-    out.extend_from_slice(&digits[at..])?;
-    Ok(())
+    out.extend_from_slice(Buffer::new().format(n).as_bytes())
 }
 
 // What is written as digits is read back as it was.
-pub fn number_comes_back() -> u8
+#[tactic(auto, using(crate::proofs::NumberSteps::comes_back))]
+pub fn number_comes_back()
     ensures { NumberComesBack }
-{
-    0
-}
+{}

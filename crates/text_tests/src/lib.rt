@@ -3,6 +3,8 @@
 
 #[cfg(test)]
 mod tests {
+    use basics::Refusal;
+    use lines::push_line;
     use std::alloc::Global;
     use std::test::Fail;
     use text::{Fault, HomeLine, home_line, next_word, number, push_hex, push_number, unhex};
@@ -65,6 +67,15 @@ mod tests {
         push_number(&mut out, 1090)?;
         push_number(&mut out, 4294967295)?;
         assert!(rt; out.as_slice() == b"010904294967295".as_slice());
+        Ok(())
+    }
+
+    #[test]
+    fn writes_lines(rt: HostRuntime) -> Result<(), Fail> {
+        let mut out = Vec::new(rt.alloc());
+        push_line(&mut out, 4294967295u32)?;
+        push_line(&mut out, Refusal::LockState)?;
+        assert!(rt; out.as_slice() == b"4294967295\nturned away 6\n".as_slice());
         Ok(())
     }
 

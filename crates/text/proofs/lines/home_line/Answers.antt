@@ -1,12 +1,12 @@
-use Rattle.std.proofs.Common.{◌∙◌, ap}
-use Rattle.std.proofs.lemmas.Result.{err_from_is_err_and}
-use Rattle.text.specs.Line.{first_word}
-use Rattle.text.proofs.LineSteps.{refuses_line}
+use Rattle.std.proofs.Common.{◌≡◌, arith}
+use Rattle.std.specs.Option.{option_map}
+use Rattle.std.proofs.lemmas.Bool.Decides.{nat_tests}
+use Rattle.text.specs.Hex.{bytes_from}
+use Rattle.text.specs.Line.{Bytes, meaning_of}
+use Rattle.text.proofs.LineSteps.{read_message}
 use Rattle.text.proofs.lines.home_line.Goals as goal
 
-pub returns-in_err-unhex : goal.returns-in_err-unhex
-returns-in_err-unhex c =
-    let p = err_from_is_err_and c.from_residual.result c.from_residual.ensures.1 in
-    let told = c.next_word.ensures in
-    let second = c.next_word-2.ensures.word ∙ ap first_word told.rest in
-    rw (p.1, p.2) (refuses_line c.args.line.now c.next_word.result.0.now c.next_word-2.result.0.now c.in_err-unhex.field-0.0 told.word second c.if-is_passed_over.ensures c.if-is_empty.ensures c.in_err-unhex.ensures)
+pub returns-in_default-empty-default : goal.returns-in_default-empty-default
+returns-in_default-empty-default c =
+    let meaning : meaning_of c.args.line.now ≡ option_map Bytes (bytes_from c.next_word.result.0.now) = grind (arith, nat_tests) in
+    read_message _ _ _ _ meaning c.unhex.ensures c.map.ensures.cases

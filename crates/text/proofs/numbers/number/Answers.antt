@@ -1,17 +1,10 @@
-use Rattle.std.proofs.Common.{sym, ◌∙◌}
+use Rattle.std.proofs.Common.{rules, sym, ap, ◌∙◌}
 use Rattle.std.proofs.lemmas.Bool.{eqb-false}
-use Rattle.text.proofs.NumberSteps.{goes_on, stops, ends}
+use Rattle.text.specs.Number.{number_after}
+use Rattle.text.proofs.NumberSteps.{folded, whole}
 use Rattle.text.proofs.numbers.number.Goals as goal
-
-pub returns-in_err-n : goal.returns-in_err-n
-returns-in_err-n c =
-    let some = eqb-false _ 0 (sym c.if-is_empty.ensures) in
-    c.from_residual.ensures ∙ sym (stops c.args.digits.now c.loop-digit.invariant c.loop-digit-test.true some (sym c.with_digit.ensures ∙ c.in_err-n.was))
-
-pub loop-digit-preserved : goal.loop-digit-preserved
-loop-digit-preserved c = goes_on c.args.digits.now c.loop-digit.invariant c.loop-digit-test.true (sym c.with_digit.ensures ∙ c.in_ok-n.was)
 
 pub returns : goal.returns
 returns c =
-    let some = eqb-false _ 0 (sym c.if-is_empty.ensures) in
-    sym (ends c.args.digits.now c.loop-digit.invariant c.loop-digit-test.false some)
+    let read = folded _ (λ f f' n x o k. search rules) _ _ _ _ c.try_fold.ensures.ran in
+    read ∙ ap (number_after 0) c.iter.ensures.rest ∙ sym (whole c.args.digits.now (eqb-false _ 0 (sym c.if-is_empty.ensures)))
