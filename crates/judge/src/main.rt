@@ -1,95 +1,79 @@
 // The judge as a program: a trace comes in, and what is to be said of it goes out.
 #![tactic(auto)]
 
-use anyhow::anyhow;
+use anyhow::bail;
 use basics::Refusal;
 use judging::Judge;
-use lines::push_refusal;
 use std::fs::File;
-use std::io::{Read, Write};
+use std::io::Read;
 use std::process::ExitCode;
 use std::{env, io};
 use trace::Verdict;
-use verdict_lines::push_verdict;
 
 const BUFFER: usize = 65536;
 
-// How a trace is written.
-#[derive(Clone, Copy)]
-enum Form {
-    Hexadecimal,
-    Raw,
+// Why there is no verdict.
+#[derive(Drop)]
+enum Stopped {
+    // the trace was refused
+    Refused(Refusal),
+    // the trace could not be read
+    Failed(anyhow::Error),
+}
+
+impl From<Refusal> for Stopped {
+    fn from(why: Refusal) -> Stopped {
+        Stopped::Refused(why)
+    }
+}
+
+impl From<anyhow::Error> for Stopped {
+    fn from(error: anyhow::Error) -> Stopped {
+        Stopped::Failed(error)
+    }
+}
+
+impl From<io::Error> for Stopped {
+    fn from(error: io::Error) -> Stopped {
+        Stopped::Failed(error.into())
+    }
 }
 
 // Reads the whole trace, piece by piece, or up to what is refused.
-fn read_all(
+fn read_all<F: FnMut(&[u8]) -> Result<(), Refusal>>(
     input: &mut impl Read,
-    form: Form,
-    judge: &mut Judge,
     buffer: &mut [u8],
-) -> io::Result<Result<(), Refusal>> {
+    mut feed: F,
+) -> Result<(), Stopped>
+    requires { F.IsAlwaysCallable feed }
+{
+    // counted, since a loop that waits on input needs a bound
     for _ in 0..u64::MAX {
-        let n = input.read(buffer)?;
-        if n == 0 {
-            break;
-        }
-        let done = match form {
-            Form::Hexadecimal => judge.text(&buffer[..n]),
-            Form::Raw => judge.bytes(&buffer[..n]),
-        };
-        if let Err(why) = done {
-            return Ok(Err(why));
+        match input.read(buffer)? {
+            0 => break,
+            n => feed(&buffer[..n])?,
         }
     }
-    Ok(Ok(()))
+    Ok(())
 }
 
-// The verdict on the file that is named, or else on standard input.
-fn judged(rt: &HostRuntime, judge: &mut Judge) -> anyhow::Result<Result<Verdict, Refusal>> {
-    let mut buffer = vec![in rt.alloc(); 0u8; BUFFER]?;
-    let mut arguments = env::args(rt)?;
-    arguments.next();
-    let path = arguments.next();
-    if arguments.next().is_some() {
-        return Err(anyhow!("judge takes one file, or none"));
-    }
-    let read = match path {
-        Some(path) => read_all(
-            &mut File::open(rt, path.as_str())?,
-            Form::Raw,
-            judge,
-            buffer.as_mut_slice(),
-        )?,
-        None => read_all(
-            &mut rt.stdin(),
-            Form::Hexadecimal,
-            judge,
-            buffer.as_mut_slice(),
-        )?,
-    };
-    match read {
-        Ok(()) => Ok(judge.verdict()),
-        Err(why) => Ok(Err(why)),
+// The file that is named, if one is.
+fn named_file(rt: &HostRuntime) -> anyhow::Result<Option<File>> {
+    let mut arguments = env::args(rt)?.skip(1);
+    match (arguments.next(), arguments.next()) {
+        (None, _) => Ok(None),
+        (Some(path), None) => Ok(Some(File::open(rt, path.as_str())?)),
+        (Some(_), Some(_)) => bail!("judge takes one file, or none"),
     }
 }
 
-// Prints the verdict, or the refusal, and tells whether there was a verdict.
-fn run(rt: &HostRuntime) -> anyhow::Result<bool> {
-    let mut judge = Judge::new(rt.alloc())?;
-    let answer = judged(rt, &mut judge)?;
-    let mut out = Vec::new(rt.alloc());
-    let pushed = match answer {
-        Ok(verdict) => push_verdict(&mut out, &verdict),
-        Err(why) => push_refusal(&mut out, why),
-    };
-    if pushed.is_err() {
-        return Err(anyhow!("out of memory"));
+// The verdict on the raw bytes of the file that is named, or else on the text of standard input.
+fn judged(rt: &HostRuntime, buffer: &mut [u8], judge: &mut Judge) -> Result<Verdict, Stopped> {
+    match named_file(rt)? {
+        Some(mut file) => read_all(&mut file, buffer, |piece| judge.bytes(piece))?,
+        None => read_all(&mut rt.stdin(), buffer, |piece| judge.text(piece))?,
     }
-    rt.stdout().write_all(out.as_slice())?;
-    if let Err(why) = answer {
-        complain(rt, u64::from(judge.events()) + 1, why)?;
-    }
-    Ok(answer.is_ok())
+    Ok(judge.verdict()?)
 }
 
 // Says on standard error which event was refused.
@@ -100,11 +84,20 @@ fn complain(rt: &HostRuntime, event: u64, why: Refusal) -> io::Result<()> {
     }
 }
 
-// A trace that was refused is told by the status alone: what is to be said of it was said.
+// Prints the verdict, or why the trace was refused, and the status tells which. A trace that could not be read is an error.
 fn main(rt: HostRuntime) -> anyhow::Result<ExitCode> {
-    if run(&rt)? {
-        Ok(ExitCode::SUCCESS)
-    } else {
-        Ok(ExitCode::FAILURE)
+    let mut judge = Judge::new(rt.alloc())?;
+    let mut buffer = vec![in rt.alloc(); 0u8; BUFFER]?;
+    match judged(&rt, &mut buffer, &mut judge) {
+        Ok(verdict) => {
+            print!(rt; "{verdict}")?;
+            Ok(ExitCode::SUCCESS)
+        }
+        Err(Stopped::Refused(why)) => {
+            println!(rt; "{why}")?;
+            complain(&rt, u64::from(judge.events()) + 1, why)?;
+            Ok(ExitCode::FAILURE)
+        }
+        Err(Stopped::Failed(error)) => Err(error),
     }
 }

@@ -1,4 +1,3 @@
-pub mod KnownEvents
 pub mod Whole
 pub mod Steps
 pub mod Pieces

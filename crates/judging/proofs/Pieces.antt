@@ -1,6 +1,6 @@
 -- A piece that is fed item by item: what holds between two items, and how it ends. Assumes nothing.
-use Rattle.std.proofs.Common.{◌≡◌, ℕ, ◌+◌, ◌<◌, ◌≤◌, List, [], ◌∷◌, length, get_or, drop, Ok, Err, Result, sym, refl, ◌∙◌, subst}
-use Rattle.std.proofs.lemmas.List.{at_drop_more, at_drop_all}
+use Rattle.std.proofs.Common.{◌≡◌, ℕ, ◌+◌, ◌<◌, List, [], ◌∷◌, length, get_or, drop, Ok, Err, Result, sym, refl, ◌∙◌}
+use Rattle.std.proofs.lemmas.List.{at_drop_more}
 use Rattle.basics.specs.declared.Refusal.{Refusal}
 use Rattle.trace_text.specs.Text.{TextReading}
 use Rattle.judging.specs.declared.judge.Judge.{Judge}
@@ -42,8 +42,3 @@ module _ (feed : TextReading → ℕ → Result TextReading Refusal) where
         let b = so t h in
         rw (is, sym (sym (at_drop_more (fed_on feed (Ok b.held)) piece i 0 within) ∙ b.same))
         (stopped k why (feed b.held (get_or piece i 0)) (drop (i + 1) piece) (does b.held b.holds))
-
-    pub all_fed : length piece ≤ i → (t : TextReading) → Holds start t → Follows (Ok tt) j (fed_on feed (Ok t) piece)
-    all_fed end t h =
-        let b = so t h in
-        subst (Follows (Ok tt) j) (sym (at_drop_all (fed_on feed (Ok b.held)) piece i end) ∙ b.same) b.holds

@@ -1,24 +1,24 @@
--- What the event that a byte makes does to a judge. Assumes nothing.
-use Rattle.std.proofs.Common.{◌≡◌, ℕ, suc, ◌≤◌, true, false, ltb, List, length, Some, Ok, Err, Result, ap, ◌∙◌, arith}
+-- What one character or byte more does to a judge. Assumes nothing.
+use Rattle.std.proofs.Common.{◌≡◌, ℕ, suc, refl, ◌≤◌, true, List, ◌∷◌, length, None, Some, Ok, Err, Option, Result, ap, ◌∙◌, arith}
+use Rattle.std.proofs.lemmas.Bool.{le-ltb, lt-ltb}
 use Rattle.std.proofs.lemmas.Bool.Decides.{nat_tests}
 use Rattle.basics.specs.declared.Refusal.{Refusal}
 use Rattle.basics.specs.declared.Refusal.TheVariants.{CounterFull}
 use Rattle.trace.specs.declared.Event.{Event}
-use Rattle.trace.specs.Bytes.{event_with, part_with}
 use Rattle.trace.specs.Events.{is_known}
-use Rattle.trace_text.specs.Parts.{part_of}
 use Rattle.trace_text.specs.Text.{TextReading}
-use Rattle.vectors.specs.Check.{Tables}
+use Rattle.trace_text.specs.Readers.{reading_of, ReadsOn}
+use Rattle.trace_text.specs.declared.trace_reader.TraceReader.{TraceReader}
+use Rattle.race_check.specs.declared.state.Check.{Check}
 use Rattle.vectors.proofs.Latest.{places_are}
 use Rattle.race_check.specs.Checks.{check_of, accepted, Fed}
 use Rattle.race_check.specs.States.{Led}
 use Rattle.judging.specs.declared.judge.Judge.{Judge}
-use Rattle.judging.specs.Fed.{fed_byte}
+use Rattle.judging.specs.Fed.{limited}
 use Rattle.judging.specs.Judges.{Holds, Follows}
-use Rattle.judging.proofs.KnownEvents.{event_known}
 
 -- an event that was taken found room, and one that was refused found none
-abbrev pub Room : Result (Unit {0}) Refusal → List Event → Type 0
+abbrev Room : Result (Unit {0}) Refusal → List Event → Type 0
 Room (Ok _) es = suc (length es) ≤ 4294967295
 Room (Err why) es = (4294967295 ≤ length es) × (why ≡ CounterFull)
 
@@ -27,27 +27,31 @@ room_told :
 room_told es places e (Ok _) known p h = grind (arith, nat_tests)
 room_told es places e (Err why) known p h = (grind (arith, nat_tests), grind (arith, nat_tests))
 
-not_more : (n : ℕ) → n ≤ 4294967295 → ltb 4294967295 n ≡ false
-not_more n h = grind (arith, nat_tests)
-
-one_too_many : (n : ℕ) → 4294967295 ≤ n → ltb 4294967295 (suc n) ≡ true
-one_too_many n h = grind (arith, nat_tests)
-
--- the judge k is what the event e left
+-- from what the judge j holds, t, the reader has read one character or byte more: it gave got, and is left as it is then
 module _
-    (k : Judge) (t : TextReading) (b : ℕ) (e : Event) (before : Tables) (made : event_with t.reading.part b ≡ Ok (Some e)) (mode : k.mode ≡ t.mode)
-    (part : part_of k.reader ≡ part_with t.reading.part b) where
-  one_event : (got : Result (Unit {0}) Refusal) → Room got t.reading.trace → Fed got before (check_of k.check) e t.reading.trace → Follows got k (fed_byte t b)
-  one_event (Ok _) room fed = rw (made, not_more _ room) (record { mode = mode; part = part; fed = fed; room = room })
-  one_event (Err why) room fed = rw (made, one_too_many _ room.0) room.1
+    (step : TextReading → ℕ → Result TextReading Refusal) (j : Judge) (t : TextReading) (h : Holds j t) (c : ℕ) (got : Result (Option Event) Refusal) (left : TraceReader)
+    (reads : (es : List Event) → ReadsOn got left es (step (reading_of j.reader es) c)) where
+  here : ReadsOn got left t.reading.trace (step t c)
+  here = rw (h.mode, h.part) at (reads t.reading.trace)
 
--- and j what it found
-pub event_fed :
-    (j k : Judge) (b : ℕ) (e : Event) (got : Result (Unit {0}) Refusal) → event_with (part_of j.reader) b ≡ Ok (Some e) → k.mode ≡ j.mode →
-    part_of k.reader ≡ part_with (part_of j.reader) b → got ≡ accepted (check_of j.check).places e →
-    ((es : List Event) → Led (check_of j.check) es → Fed got (check_of j.check) (check_of k.check) e es) → (t : TextReading) → Holds j t → Follows got k (fed_byte t b)
-event_fed j k b e got made mode part answer fed t h =
-    let es = t.reading.trace in
-    let places : (check_of j.check).places ≡ length es = ap (λ x. x.places) h.fed.leads ∙ places_are es in
-    one_event k t b e (check_of j.check) (rw h.part at made) (mode ∙ h.mode) (part ∙ ap (λ p. part_with p b) h.part) got
-    (room_told es _ e got (event_known (part_of j.reader) b e made) places answer) (fed es h.fed)
+  -- it was refused
+  pub refused_one : (why : Refusal) → got ≡ Err why → (answer : Result (Unit {0}) Refusal) → answer ≡ Err why → (k : Judge) → Follows answer k (limited (step t c))
+  refused_one why is answer gives k = rw (gives, rw is at here) refl
+
+  -- no event was made yet
+  pub none_made : got ≡ Ok None → Follows (Ok tt) (record { reader = left; check = j.check }) (limited (step t c))
+  none_made is = rw (rw is at here, le-ltb 4294967295 _ h.room) (record { mode = refl; part = refl; fed = h.fed; room = h.room })
+
+  -- an event was made, which the check was fed
+  pub event_fed :
+      (e : Event) → got ≡ Ok (Some e) → (answer : Result (Unit {0}) Refusal) → answer ≡ accepted (check_of j.check).places e → (check : Check) →
+      ((es : List Event) → Led (check_of j.check) es → Fed answer (check_of j.check) (check_of check) e es) → Follows answer (record { reader = left; check = check }) (limited (step t c))
+  event_fed e is answer accepts check feeds =
+      rw ((rw is at here).0)
+      (after answer (room_told _ (check_of j.check).places e answer ((rw is at here).1) (ap (λ x. x.places) h.fed.leads ∙ places_are t.reading.trace) accepts) (feeds t.reading.trace h.fed))
+    where
+      after :
+          (answer : Result (Unit {0}) Refusal) → Room answer t.reading.trace → Fed answer (check_of j.check) (check_of check) e t.reading.trace →
+          Follows answer (record { reader = left; check = check }) (limited (Ok (reading_of left (e ∷ t.reading.trace))))
+      after (Ok _) room fed = rw (le-ltb 4294967295 _ room) (record { mode = refl; part = refl; fed = fed; room = room })
+      after (Err why) room fed = rw (lt-ltb 4294967295 (suc (length t.reading.trace)) (omega arith)) room.1

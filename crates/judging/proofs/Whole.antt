@@ -5,7 +5,7 @@ use Rattle.basics.specs.declared.Refusal.{Refusal}
 use Rattle.basics.specs.declared.Refusal.TheVariants.{CounterFull}
 use Rattle.trace.specs.Bytes.{Reading, with_byte, read_on}
 use Rattle.trace_text.specs.declared.chars.Mode.{Mode}
-use Rattle.trace_text.specs.Text.{TextReading, text_start, char_on, text_on, in_mode}
+use Rattle.trace_text.specs.Text.{TextReading, text_start, char_on, byte_on, text_on, in_mode}
 use Rattle.judging.specs.Fed.{limited, fed_on}
 use Rattle.judging.specs.Laws.{PiecesJoin, Agrees, TextIsRead, BytesAreRead}
 
@@ -46,9 +46,6 @@ pub text_is_read : TextIsRead
 text_is_read text = agrees char_on text_on (λ t. refl) (λ t c cs. refl) text_err text text_start
 
 -- raw bytes, the mode staying as it is
-abbrev byte_on : TextReading → ℕ → Result TextReading Refusal
-byte_on t b = in_mode t.mode (with_byte t.reading b)
-
 abbrev bytes_on : Result TextReading Refusal → List ℕ → Result TextReading Refusal
 bytes_on (Ok t) bs = in_mode t.mode (read_on (Ok t.reading) bs)
 bytes_on (Err why) bs = Err why

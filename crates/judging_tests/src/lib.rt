@@ -6,20 +6,36 @@ mod tests {
     use basics::Refusal;
     use judging::Judge;
     use std::test::Fail;
-    use trace::Verdict;
+    use trace::{Event, Placed, Race, Verdict};
 
-    // The places of the first race, if there is a verdict.
-    fn race_of(verdict: Result<Verdict, Refusal>) -> Option<(u32, u32)> {
-        match verdict {
-            Ok(
-                Verdict {
-                    race: Some(race),
-                    ..
+    // Station 0 and station 1 wrote 7 to word 5, and no lock orders the two.
+    const TWO_WRITES: Verdict = Verdict {
+        race: Some(Race {
+            earlier: Placed {
+                place: 1,
+                event: Event::Write {
+                    station: 0,
+                    word: 5,
+                    value: 7,
                 },
-            ) => Some((race.earlier.place, race.later.place)),
-            _ => None,
-        }
-    }
+            },
+            later: Placed {
+                place: 2,
+                event: Event::Write {
+                    station: 1,
+                    word: 5,
+                    value: 7,
+                },
+            },
+        }),
+        stale: None,
+    };
+
+    // No race and no stale read.
+    const NOTHING_FOUND: Verdict = Verdict {
+        race: None,
+        stale: None,
+    };
 
     #[test]
     fn text_may_be_cut_anywhere(rt: HostRuntime) -> Result<(), Fail> {
@@ -31,7 +47,7 @@ mod tests {
         assert_eq!(rt; judge.text(b"7\n01"), Ok(()));
         assert_eq!(rt; judge.text(b" 02\t00000005\r\n00000007"), Ok(()));
         assert_eq!(rt; judge.events(), 2);
-        assert_eq!(rt; race_of(judge.verdict()), Some((1, 2)));
+        assert_eq!(rt; judge.verdict(), Ok(TWO_WRITES));
         Ok(())
     }
 
@@ -44,16 +60,16 @@ mod tests {
             judge.bytes(b"\x00\x00\x07\x01\x02\x00\x00\x00\x05\x00\x00\x00\x07"),
             Ok(())
         );
-        assert_eq!(rt; race_of(judge.verdict()), Some((1, 2)));
+        assert_eq!(rt; judge.verdict(), Ok(TWO_WRITES));
         Ok(())
     }
 
     #[test]
     fn a_trace_does_not_end_within_an_event(rt: HostRuntime) -> Result<(), Fail> {
         let mut judge = Judge::new(rt.alloc())?;
-        assert!(rt; judge.verdict().is_ok());
+        assert_eq!(rt; judge.verdict(), Ok(NOTHING_FOUND));
         assert_eq!(rt; judge.text(b"00 02 00000005 000000"), Ok(()));
-        assert_eq!(rt; judge.verdict().is_ok(), false);
+        assert_eq!(rt; judge.verdict(), Err(Refusal::Malformed));
         Ok(())
     }
 
@@ -61,7 +77,7 @@ mod tests {
     fn nor_within_a_byte(rt: HostRuntime) -> Result<(), Fail> {
         let mut judge = Judge::new(rt.alloc())?;
         assert_eq!(rt; judge.text(b"00 02 00000005 00000007 0"), Ok(()));
-        assert_eq!(rt; judge.verdict().is_ok(), false);
+        assert_eq!(rt; judge.verdict(), Err(Refusal::Malformed));
         assert_eq!(rt; judge.text(b" "), Err(Refusal::Malformed));
         Ok(())
     }

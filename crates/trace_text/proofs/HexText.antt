@@ -1,36 +1,25 @@
 -- Bytes written as digits, read character by character, are those bytes. Assumes nothing.
-use Rattle.std.proofs.Common.{◌≡◌, ℕ, ◌/◌, ◌%◌, ◌<◌, false, eqb, List, [], ◌∷◌, Ok, Err, Result, refl, ap, ◌∙◌, arith}
+use Rattle.std.proofs.Common.{◌≡◌, ℕ, ◌/◌, ◌%◌, ◌<◌, List, [], ◌∷◌, Ok, Err, Result, refl, ap, ◌∙◌, arith}
 use Rattle.std.specs.List.{AllByRecursion}
 use Rattle.std.proofs.lemmas.Nat.{div_below}
 use Rattle.std.proofs.lemmas.Bool.Decides.{nat_tests}
 use Rattle.basics.specs.declared.Refusal.{Refusal}
 use Rattle.text.specs.Hex.{digit_of, hex_of}
-use Rattle.text.specs.Line.{white}
 use Rattle.text.proofs.HexSteps.{byte_back}
 use Rattle.trace.specs.Bytes.{Reading, none_read, with_byte, whole, read_on, read_trace}
 use Rattle.trace_text.specs.declared.chars.Mode.TheVariants.{LineStart, InLine, Half}
 use Rattle.trace_text.specs.Text.{in_mode, char_on, text_on, text_whole, text_trace}
 
--- a digit is no mark of a line that is passed over, no end of a line and no white space
-no_mark : (n : ℕ) → n < 16 → eqb (digit_of n) 35 ≡ false
-no_mark n small = grind (arith, nat_tests)
-
-no_end : (n : ℕ) → n < 16 → eqb (digit_of n) 10 ≡ false
-no_end n small = grind (arith, nat_tests)
-
-no_white : (n : ℕ) → n < 16 → white (digit_of n) ≡ false
-no_white n small = grind (arith, nat_tests)
-
 -- so it is the first of a byte
 first_on_line : (r : Reading) (n : ℕ) → n < 16 → char_on (record { mode = LineStart; reading = r }) (digit_of n) ≡ Ok (record { mode = Half (digit_of n); reading = r })
-first_on_line r n small = rw (no_mark n small, no_end n small, no_white n small) refl
+first_on_line r n small = grind (arith, nat_tests)
 
 first_in_line : (r : Reading) (n : ℕ) → n < 16 → char_on (record { mode = InLine; reading = r }) (digit_of n) ≡ Ok (record { mode = Half (digit_of n); reading = r })
-first_in_line r n small = rw (no_end n small, no_white n small) refl
+first_in_line r n small = grind (arith, nat_tests)
 
 -- and the next makes the byte
 second : (r : Reading) (b : ℕ) → b < 256 → char_on (record { mode = Half (digit_of (b / 16)); reading = r }) (digit_of (b % 16)) ≡ in_mode InLine (with_byte r b)
-second r b small = rw (byte_back b small) refl
+second r b small = rw byte_back refl
 
 high_small : (b : ℕ) → b < 256 → b / 16 < 16
 high_small b small = div_below b 16 16 (omega arith) (omega arith)

@@ -1,1 +1,2 @@
 pub mod HexText
+pub mod KnownEvents

@@ -1,3 +1,4 @@
 pub mod Chars
 pub mod Parts
 pub mod Text
+pub mod Readers

@@ -33,6 +33,10 @@ followed r (Err why) = Err why
 abbrev pub char_on : TextReading → ℕ → Result TextReading Refusal
 char_on t c = followed t.reading (with_char t.mode c)
 
+-- one raw byte more: the mode stays as it is
+abbrev pub byte_on : TextReading → ℕ → Result TextReading Refusal
+byte_on t b = in_mode t.mode (with_byte t.reading b)
+
 abbrev pub text_on : Result TextReading Refusal → List ℕ → Result TextReading Refusal
 text_on t [] = t
 text_on (Ok t) (c ∷ cs) = text_on (char_on t c) cs
