@@ -5,6 +5,7 @@ ghost use Rattle.trace_laws.specs.Codec.{EventComesBack, EventOneText, TraceCome
 ghost use Rattle.trace_laws.specs.Beginnings.{Beginnings};
 
 // Every event in range comes back from its ten bytes.
+#[tactic(auto, using(crate::proofs::OneEvent::event_back))]
 pub fn event_comes_back()
     ensures { EventComesBack }
 {}
@@ -15,16 +16,19 @@ pub fn event_one_text()
 {}
 
 // Every trace in range comes back from its bytes.
+#[tactic(auto, using(crate::proofs::WholeTrace::trace_back))]
 pub fn trace_comes_back()
     ensures { TraceComesBack }
 {}
 
 // What is read as a trace is that trace's bytes: other bytes, of whatever length, are refused as malformed.
+#[tactic(auto, using(crate::proofs::WholeTrace::trace_text))]
 pub fn trace_one_text()
     ensures { TraceOneText }
 {}
 
 // What is said of a trace is said of each beginning that has the events.
+#[tactic(auto, using(crate::proofs::Inherited::inherited))]
 pub fn beginnings()
     ensures { Beginnings }
 {}

@@ -1,6 +1,6 @@
 -- The later of two findings, and the latest among the stations' reads: what holds of each holds of it, and it lies as late as any. Assumes nothing.
-use Rattle.std.proofs.Common.{ℕ, zero, suc, ◌<◌, ◌≤◌, Some, None, Option, inl, inr, arith}
-use Rattle.std.proofs.lemmas.Bool.Decides.{leb_tells, eqb_tells}
+use Rattle.std.proofs.Common.{ℕ, zero, suc, ◌<◌, ◌≤◌, Some, None, Option, arith}
+use Rattle.std.proofs.lemmas.Bool.Decides.{nat_tests}
 use Rattle.trace.specs.declared.Event.TheVariants.{Read}
 use Rattle.trace.specs.declared.Placed.{Placed}
 use Rattle.vectors.specs.declared.Access.{Access}
@@ -17,20 +17,20 @@ Reaches m None = ⊥
 Reaches m (Some p) = m ≤ p.place
 
 pub later_of : (P : Placed → Type 0) (a b : Option Placed) → Of P a → Of P b → Of P (later a b)
-later_of P None None h k = tt
+later_of P (Some p) (Some q) h k = grind (arith, nat_tests)
 later_of P None (Some q) h k = k
 later_of P (Some p) None h k = h
-later_of P (Some p) (Some q) h k = elim (leb_tells (suc p.place) q.place) [ inl t ↦ rw t.0 k | inr t ↦ rw t.0 h ]
+later_of P None None h k = tt
 
 pub reaches_left : (m : ℕ) (a b : Option Placed) → Reaches m a → Reaches m (later a b)
-reaches_left m None b h = absurd h
+reaches_left m (Some p) (Some q) h = grind (arith, nat_tests)
 reaches_left m (Some p) None h = h
-reaches_left m (Some p) (Some q) h = elim (leb_tells (suc p.place) q.place) [ inl t ↦ rw t.0 (omega (arith, t.1)) | inr t ↦ rw t.0 h ]
+reaches_left m None b h = absurd h
 
 pub reaches_right : (m : ℕ) (a b : Option Placed) → Reaches m b → Reaches m (later a b)
-reaches_right m a None h = absurd h
+reaches_right m (Some p) (Some q) h = grind (arith, nat_tests)
 reaches_right m None (Some q) h = h
-reaches_right m (Some p) (Some q) h = elim (leb_tells (suc p.place) q.place) [ inl t ↦ rw t.0 h | inr t ↦ rw t.0 (omega (arith, t.1)) ]
+reaches_right m a None h = absurd h
 
 module _ (v : Vector) (w : ℕ) (rs : ℕ → Access) where
   abbrev read_of : ℕ → Option Placed
@@ -45,7 +45,5 @@ module _ (v : Vector) (w : ℕ) (rs : ℕ → Access) where
   unfolding unordered_read
   reads_reach m j zero l h = absurd (omega arith)
   reads_reach m j (suc n) l h =
-      elim (eqb_tells j n) [
-        | inl t ↦ reaches_right m _ _ (rw t.1 at h)
-        | inr t ↦ reaches_left m _ _ (reads_reach m j n (omega (arith, t.1)) h)
-      ]
+      let before = reads_reach m j n in
+      grind (arith, reaches_right m (unordered_read n v w rs) (read_of n), reaches_left m (unordered_read n v w rs) (read_of n))

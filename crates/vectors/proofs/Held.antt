@@ -1,14 +1,14 @@
 -- What the check finds against the next event conflicts with it and does not come before it; without earlier races, no such event lies later. Assumes nothing.
-use Rattle.std.proofs.Common.{◌≡◌, ℕ, ◌<◌, T, List, [], ◌∷◌, Some, None, Option, sym, refl, inl, inr, arith}
+use Rattle.std.proofs.Common.{◌≡◌, ℕ, ◌<◌, T, List, [], ◌∷◌, Some, None, Option, sym, refl, arith}
 use Rattle.std.proofs.lemmas.Bool.Decides.{nat_tests}
 use Rattle.trace.specs.declared.Event.{Event}
-use Rattle.trace.specs.declared.Event.TheVariants.{Read, Write, Acquire, Release}
+use Rattle.trace.specs.declared.Event.TheVariants.{Read, Write}
 use Rattle.trace.specs.Events.{by, reads, writes, value_of, is_known}
 use Rattle.trace.specs.Order.{event_at, own, Conflict, RaceFree}
 use Rattle.trace.proofs.Places.{at_cases}
 use Rattle.vectors.specs.Check.{Vector, either, against_write, against_reads, unordered_with, after}
 use Rattle.vectors.specs.Laws.{Known}
-use Rattle.vectors.proofs.Conflicts.{Meets, on_write, on_read, meets, met, two_writes}
+use Rattle.vectors.proofs.Conflicts.{on_write, on_read, meets, met, two_writes}
 use Rattle.vectors.proofs.Found.{Of, Reaches, later_of, reaches_left, reaches_right, reads_of, reads_reach}
 use Rattle.vectors.proofs.Latest.{Writes, ReadsBy, last_write, last_read}
 use Rattle.vectors.proofs.Reaching.{Precedes}
@@ -17,28 +17,21 @@ use Rattle.vectors.proofs.Vectors.{vector}
 
 -- a write and a read are given by their station, word and value
 is_write : (s w v : ℕ) (g : Event) → writes g ≡ Some w → by g ≡ s → value_of g ≡ v → g ≡ Write s w v
-is_write s w v (Read a b c) h p q = absurd (grind (arith, h))
 is_write s w v (Write a b c) h p q = cc
-is_write s w v (Acquire a b) h p q = absurd (grind (arith, h))
-is_write s w v (Release a b) h p q = absurd (grind (arith, h))
+is_write s w v g h p q = cc
 
 is_read : (s w v : ℕ) (g : Event) → reads g ≡ Some w → by g ≡ s → value_of g ≡ v → g ≡ Read s w v
 is_read s w v (Read a b c) h p q = cc
-is_read s w v (Write a b c) h p q = absurd (grind (arith, h))
-is_read s w v (Acquire a b) h p q = absurd (grind (arith, h))
-is_read s w v (Release a b) h p q = absurd (grind (arith, h))
+is_read s w v g h p q = cc
 
 -- a station of a known trace is one of the 16
 pub station_known : (f : Event) → T (is_known f) → by f < 16
-station_known (Read s w v) k = grind (arith, nat_tests, k)
-station_known (Write s w v) k = grind (arith, nat_tests, k)
-station_known (Acquire s l) k = grind (arith, nat_tests, k)
-station_known (Release s l) k = grind (arith, nat_tests, k)
+station_known (Read s w v) k = grind (arith, nat_tests)
+station_known f k = grind (arith, nat_tests)
 
 known_at : (es : List Event) → Known es → (m : ℕ) (f : Event) → event_at es m ≡ Some f → by f < 16
-known_at [] k m f h = absurd (grind (arith, h))
-known_at (e ∷ es) k m f h =
-    elim (at_cases es e m h) [ inl t ↦ rw t.1 (station_known e k.0) | inr t ↦ known_at es k.1 m f t.1 ]
+known_at [] k m f h = cc
+known_at (e ∷ es) k m f h = grind (arith, at_cases es e m h, station_known e k.0, known_at es k.1 m f)
 
 module _ (es : List Event) (e : Event) where
   abbrev v : Vector
@@ -65,7 +58,7 @@ module _ (es : List Event) (e : Event) where
   open_with = later_of (Open es e) _ _ (write_open (either (reads e) (writes e)) refl) (reads_open (writes e) refl)
 
   -- an event of the trace that conflicts with the next one and does not come before it
-  module _ (known : Known es) (free : RaceFree es) (m : ℕ) (f : Event) (h : event_at es m ≡ Some f) (apart : Precedes es e m → ⊥) where
+  module _ (known : Known es) (free : RaceFree es) (m : ℕ) (f : Event) (h : event_at es m ≡ Some f) (c : Conflict f e) (apart : Precedes es e m → ⊥) where
     -- all writes of a word are ordered, for want of races
     write_reaches : (w : ℕ) → writes f ≡ Some w → Reaches m (against_write (after es) v (Some w))
     write_reaches w k =
@@ -80,9 +73,9 @@ module _ (es : List Event) (e : Event) where
         (last_reaches es e (ReadsBy w (by f)) (by f) ((after es).read w (by f)) _ m f h (k, refl) apart
         (λ p g there l r. own f g h there r (sym l.1)) (last_read es w (by f)))
 
-    reach_meets : Meets f e → Reaches m (unordered_with (after es) e)
-    reach_meets (on_write w a b) = reaches_left m _ (against_reads (after es) v (writes e)) (rw b (write_reaches w a))
-    reach_meets (on_read w a b) = reaches_right m (against_write (after es) v (either (reads e) (writes e))) _ (rw b (read_reaches w a))
-
-    pub reach_with : Conflict f e → Reaches m (unordered_with (after es) e)
-    reach_with c = reach_meets (meets f e c)
+    pub reach_with : Reaches m (unordered_with (after es) e)
+    reach_with =
+        elim (meets f e c) [
+          | on_write w a b ↦ reaches_left m _ (against_reads (after es) v (writes e)) (rw b (write_reaches w a))
+          | on_read w a b ↦ reaches_right m (against_write (after es) v (either (reads e) (writes e))) _ (rw b (read_reaches w a))
+        ]

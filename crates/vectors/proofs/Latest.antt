@@ -1,6 +1,7 @@
 -- The tables hold the last write of each word and each station's last read of it. Assumes nothing.
-use Rattle.std.proofs.Common.{◌≡◌, ℕ, suc, ◌≤◌, List, [], ◌∷◌, length, Some, None, Option, sym, refl, ap, ◌∙◌, inl, inr, arith}
-use Rattle.std.proofs.lemmas.Bool.Decides.{nat_tests, eqb_tells}
+use Rattle.std.proofs.Common.{eqb, ◌≡◌, ℕ, suc, ◌≤◌, List, [], ◌∷◌, length, Some, None, Option, refl, ap, arith}
+use Rattle.std.proofs.lemmas.Bool.Decides.{nat_tests}
+use Rattle.std.proofs.lemmas.Bool.{cond_both, eqb-true}
 use Rattle.basics.specs.Sizes.{put}
 use Rattle.trace.specs.declared.Event.{Event}
 use Rattle.trace.specs.Events.{by, reads, writes, value_of}
@@ -8,6 +9,7 @@ use Rattle.trace.specs.Order.{event_at}
 use Rattle.trace.specs.Memory.{earlier}
 use Rattle.trace.proofs.Places.{at_within, at_last, at_stays, at_cases, earlier_more, earlier_last}
 use Rattle.vectors.specs.declared.Access.{Access}
+use Rattle.vectors.specs.declared.LastWrite.{LastWrite}
 use Rattle.vectors.specs.Check.{changed, access_of, after}
 use Rattle.vectors.specs.Laws.{count}
 use Rattle.vectors.proofs.Vectors.{own_count}
@@ -30,39 +32,31 @@ pub data Last (es : List Event) (kind : Event → Type 0) (s : ℕ) (a : Access)
   none : a.count ≡ 0 → ((m : ℕ) (f : Event) → event_at es m ≡ Some f → kind f → ⊥) → Last es kind s a
   some : (g : Event) → IsLast es kind s a g → Last es kind s a
 
--- how many events its station had had by then
-number_is : (es : List Event) (e : Event) → (access_of (after es) e).count ≡ suc (count (by e) es)
-number_is es e = grind (arith, nat_tests, own_count es e)
-
 module _ (es : List Event) (e : Event) (kind : Event → Type 0) where
   -- the new event is the last of its kind
   last_new : (s : ℕ) → kind e → by e ≡ s → Last (e ∷ es) kind s (access_of (after es) e)
   last_new s k b =
+      let place : suc (after es).places ≡ suc (length es) = ap suc (places_are es) in
+      let before = earlier_last es e _ place in
       some e
       record {
         there = rw (places_are es) (at_last es e);
         of_kind = k;
         station = b;
         value = refl;
-        number = number_is es e ∙ ap (λ x. suc (count (by e) x)) (sym (earlier_last es e _ (ap suc (places_are es))));
+        number = grind (arith, nat_tests, own_count es e);
         latest = λ m f h _. rw (places_are es) (at_within (e ∷ es) m h);
       }
 
   -- and of other kinds the last one stays so
   last_same : (s : ℕ) (a : Access) → (kind e → ⊥) → Last es kind s a → Last (e ∷ es) kind s a
-  last_same s a other (none z never) =
-      none z (λ m f h k. elim (at_cases es e m h) [ inl t ↦ other (rw t.1 at k) | inr t ↦ never m f t.1 k ])
+  last_same s a other (none z never) = none z (λ m f h k. grind (arith, at_cases es e m h, never m f))
   last_same s a other (some g l) =
       let in-es = at_within es a.place l.there in
-      some g
-      record {
-        there = at_stays es e a.place l.there;
-        of_kind = l.of_kind;
-        station = l.station;
-        value = l.value;
-        number = rw (earlier_more es e a.place (omega arith)) l.number;
-        latest = λ m f h k. elim (at_cases es e m h) [ inl t ↦ absurd (other (rw t.1 at k)) | inr t ↦ l.latest m f t.1 k ];
-      }
+      let number : a.count ≡ suc (count (by g) (earlier a.place (e ∷ es))) = rw (earlier_more es e a.place (omega arith)) l.number in
+      let latest : (m : ℕ) (f : Event) → event_at (e ∷ es) m ≡ Some f → kind f → m ≤ a.place =
+      λ m f h k. grind (arith, at_cases es e m h, l.latest m f) in
+      some g (search (at_stays, number, latest))
 
 abbrev pub Writes : ℕ → Event → Type 0
 Writes w f = writes f ≡ Some w
@@ -76,30 +70,27 @@ module _ (es : List Event) (e : Event) (w : ℕ) where
       let t = changed o (λ _. record { station = by e; access = access_of (after es) e }) (after es).write w in Last (e ∷ es) (Writes w) t.station t.access
   write_on None k l = last_same es e (Writes w) _ _ (λ h. grind arith) l
   write_on (Some x) k l =
-      elim (eqb_tells w x) [
-        | inl t ↦ rw t.0 (last_new es e (Writes w) _ (rw (sym t.1) at k) refl)
-        | inr t ↦ rw t.0 (last_same es e (Writes w) _ _ (λ h. grind (arith, t.1)) l)
-      ]
+      cond_both (eqb w x) _ _ (λ (t : LastWrite). Last (e ∷ es) (Writes w) t.station t.access)
+      (λ t. last_new es e (Writes w) _ (grind (arith, nat_tests)) refl) (λ t. last_same es e (Writes w) _ _ (λ h. grind (arith, nat_tests)) l)
 
 pub last_write : (es : List Event) (w : ℕ) → Last es (Writes w) ((after es).write w).station ((after es).write w).access
-last_write [] w = none refl (λ m f h k. grind (arith, h))
+last_write [] w = none refl (λ m f h k. cc)
 last_write (e ∷ es) w = write_on es e w (writes e) refl (last_write es w)
 
 module _ (es : List Event) (e : Event) (w j : ℕ) where
   read_reached :
       (o : Option ℕ) → reads e ≡ o → Last es (ReadsBy w j) j ((after es).read w j) →
       Last (e ∷ es) (ReadsBy w j) j (changed o (put (by e) (access_of (after es) e)) (after es).read w j)
-  read_reached None k l = last_same es e (ReadsBy w j) _ _ (λ h. grind (arith, h.0)) l
+  read_reached None k l = last_same es e (ReadsBy w j) _ _ (λ h. grind arith) l
   read_reached (Some x) k l =
-      elim (eqb_tells w x) [
-        | inl t ↦
-            elim (eqb_tells j (by e)) [
-              | inl u ↦ rw (t.0, u.0) (last_new es e (ReadsBy w j) _ (rw (sym t.1) at k, sym u.1) (sym u.1))
-              | inr u ↦ rw (t.0, u.0) (rw (sym t.1) (last_same es e (ReadsBy w j) _ _ (λ h. u.1 (sym h.1)) l))
-            ]
-        | inr t ↦ rw t.0 (last_same es e (ReadsBy w j) _ _ (λ h. grind (arith, t.1, h.0)) l)
-      ]
+      cond_both (eqb w x) _ _ (λ (t : ℕ → Access). Last (e ∷ es) (ReadsBy w j) j (t j))
+      (λ t.
+      let same = eqb-true w x t in
+      cond_both (eqb j (by e)) _ _ (Last (e ∷ es) (ReadsBy w j) j)
+      (λ u. last_new es e (ReadsBy w j) j (cc, grind (arith, nat_tests)) (grind (arith, nat_tests)))
+      (λ u. rw (← same) (last_same es e (ReadsBy w j) j _ (λ h. grind (arith, nat_tests)) l)))
+      (λ t. last_same es e (ReadsBy w j) j _ (λ h. grind (arith, nat_tests)) l)
 
 pub last_read : (es : List Event) (w j : ℕ) → Last es (ReadsBy w j) j ((after es).read w j)
-last_read [] w j = none refl (λ m f h k. grind (arith, h))
+last_read [] w j = none refl (λ m f h k. cc)
 last_read (e ∷ es) w j = read_reached es e w j (reads e) refl (last_read es w j)

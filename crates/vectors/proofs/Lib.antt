@@ -1,5 +1,4 @@
 -- the vectors tell what happens before what
-pub mod Counting
 pub mod Reaching
 pub mod Exact
 pub mod Vectors

@@ -1,7 +1,7 @@
 -- The last access of a kind, held against the next event: the vector finds it just where it does not come before that. Assumes nothing.
-use Rattle.std.proofs.Common.{◌≡◌, ℕ, suc, ◌<◌, List, Some, ap, ◌∙◌, inl, inr, arith}
-use Rattle.std.proofs.lemmas.Bool.Decides.{leb_tells, eqb_tells}
-use Rattle.std.proofs.lemmas.Bool.{le-ltb}
+use Rattle.std.proofs.Common.{nat_lt, ◌≡◌, ℕ, ◌<◌, List, Some, arith}
+use Rattle.std.proofs.lemmas.Bool.Decides.{nat_tests}
+use Rattle.std.proofs.lemmas.Bool.{cond_both}
 use Rattle.trace.specs.declared.Event.{Event}
 use Rattle.trace.specs.declared.Placed.{Placed}
 use Rattle.trace.specs.Events.{by, value_of}
@@ -29,19 +29,13 @@ module _ (es : List Event) (e : Event) (kind : Event → Type 0) (s : ℕ) (a : 
   pub last_open :
       ((g : Event) → kind g → by g ≡ s → value_of g ≡ a.value → g ≡ x) → ((g : Event) → kind g → Conflict g e) → Last es kind s a →
       Of (Open es e) (unordered v s a x)
-  last_open same clash (none z never) = rw (le-ltb (v s) a.count (omega arith)) tt
+  last_open same clash (none z never) = grind (arith, nat_tests)
   last_open same clash (some g l) =
       let same-g = same g l.of_kind l.station l.value in
-      elim (leb_tells (suc (v s)) a.count) [
-        | inl t ↦
-            rw t.0
-            record {
-              there = l.there ∙ ap Some same-g;
-              conflict = rw same-g at (clash g l.of_kind);
-              unordered = λ b. omega (arith, (vectors_tell es e).counts a.place g l.there b, ap v l.station, l.number, t.1);
-            }
-        | inr t ↦ rw t.0 tt
-      ]
+      let conflict = clash g l.of_kind in
+      let counts = (vectors_tell es e).counts a.place g l.there in
+      cond_both (nat_lt (v s) a.count) _ _ (Of (Open es e))
+      (λ t. record { there = cc; conflict = rw same-g at conflict; unordered = λ b. grind (arith, nat_tests) }) (λ _. tt)
 
   -- if those of the kind are ordered, it lies no earlier than any of them that does not come before the next event
   pub last_reaches :
@@ -49,13 +43,7 @@ module _ (es : List Event) (e : Event) (kind : Event → Type 0) (s : ℕ) (a : 
       ((p : ℕ) (g : Event) → event_at es p ≡ Some g → kind g → m < p → Before es m p) → Last es kind s a → Reaches m (unordered v s a x)
   last_reaches m f h k apart chain (none z never) = absurd (never m f h k)
   last_reaches m f h k apart chain (some g l) =
-      elim (leb_tells (suc (v s)) a.count) [
-        | inl t ↦ rw t.0 (l.latest m f h k)
-        | inr t ↦
-            let b = (vectors_tell es e).happens a.place g l.there (omega (arith, ap v l.station, l.number, t.1)) in
-            let le = l.latest m f h k in
-            elim (eqb_tells m a.place) [
-              | inl u ↦ absurd (apart (rw u.1 b))
-              | inr u ↦ absurd (apart (through a.place (before_more e (chain a.place g l.there l.of_kind (omega (arith, u.1)))) b))
-            ]
-      ]
+      let latest = l.latest m f h k in
+      let happens = (vectors_tell es e).happens a.place g l.there in
+      let first = chain a.place g l.there l.of_kind in
+      cond_both (nat_lt (v s) a.count) _ _ (Reaches m) (λ _. latest) (λ t. grind (arith, nat_tests, before_more {es = es} e, through))

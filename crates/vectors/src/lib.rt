@@ -19,11 +19,13 @@ pub struct LastWrite {
 }
 
 // What happens before a station's next event is what its vector counts.
+#[tactic(auto, using(crate::proofs::Vectors::vectors_tell))]
 pub fn vectors_tell()
     ensures { VectorsTell }
 {}
 
 // The check says race-free of race-free traces alone, else the first race, and so for one memory and the first stale read.
+#[tactic(auto, using(crate::proofs::Told::check_tells))]
 pub fn check_tells()
     ensures { CheckTells }
 {}
