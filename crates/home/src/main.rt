@@ -6,7 +6,7 @@ use home_node::Home;
 use std::io::{BufRead, BufReader, BufWriter, Write};
 
 // Answers line by line until the input ends. What is printed is written out before the program waits for more input.
-fn run(rt: &HostRuntime) -> anyhow::Result<()> {
+fn main(rt: HostRuntime) -> anyhow::Result<()> {
     let heap = rt.alloc();
     let mut home = Home::new(heap)?;
     let mut input = BufReader::new(heap, rt.stdin())?;
@@ -34,8 +34,4 @@ fn run(rt: &HostRuntime) -> anyhow::Result<()> {
     }
     output.flush()?;
     Ok(())
-}
-
-fn main(rt: HostRuntime) -> anyhow::Result<()> {
-    run(&rt)
 }

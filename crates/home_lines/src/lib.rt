@@ -17,14 +17,14 @@ use text::{Fault, HomeLine, home_line, push_hex};
 use wire::encode;
 
 // Answers one line of input, without its newline: what is printed goes behind what `out` holds already.
-// It fails for want of memory only; then the answer may be incomplete.
+// It fails for want of memory only; then the answer may be incomplete. Its error is that of reading a line, which has two cases.
 pub fn respond(heap: Global, home: &mut Home, input: &[u8], out: &mut Vec<u8>) -> Result<(), Fault>
     ensures printed { OnOk result (out.new.items ≡ out.old.items ++ shown (home_of home.old) (meaning_of input.now)) }
     ensures after { OnOk result (home_of home.new ≡ followed (home_of home.old) (meaning_of input.now)) }
     ensures memory { IfErr result (λ e. e ≡ Memory) }
 {
     match home_line(heap, input) {
-        Ok(line) => follow(heap, home, &line, out)?,
+        Ok(line) => follow(home, &line, out)?,
         Err(Fault::Malformed) => push_line(out, Refusal::Malformed)?,
         Err(Fault::Memory) => return Err(Fault::Memory),
     }
@@ -32,12 +32,7 @@ pub fn respond(heap: Global, home: &mut Home, input: &[u8], out: &mut Vec<u8>) -
 }
 
 // Does what a line says.
-fn follow(
-    heap: Global,
-    home: &mut Home,
-    line: &HomeLine,
-    out: &mut Vec<u8>,
-) -> Result<(), AllocError>
+fn follow(home: &mut Home, line: &HomeLine, out: &mut Vec<u8>) -> Result<(), AllocError>
     ensures printed { OnOk result (out.new.items ≡ out.old.items ++ shown (home_of home.old) (Some (meant line.now))) }
     ensures after { home_of home.new ≡ followed (home_of home.old) (Some (meant line.now)) }
 {
@@ -47,45 +42,41 @@ fn follow(
             Ok(value) => push_line(out, value),
             Err(why) => push_line(out, why),
         },
-        HomeLine::Message(bytes) => push_answer(heap, home.receive(bytes.as_slice()), out),
+        HomeLine::Message(bytes) => push_answer(home.receive(bytes.as_slice()), out),
     }
 }
 
 // A refusal first, then what is sent.
-fn push_answer(
-    heap: Global,
-    answer: Result<Sent, Refused>,
-    out: &mut Vec<u8>,
-) -> Result<(), AllocError>
+fn push_answer(answer: Result<Sent, Refused>, out: &mut Vec<u8>) -> Result<(), AllocError>
     ensures { OnOk result (out.new.items ≡ out.old.items ++ answer_lines (refusal_of answer) (told_of answer)) }
 {
     match answer {
-        Ok(sent) => push_sent(heap, &sent, out),
+        Ok(sent) => push_sent(&sent, out),
         Err(refused) => {
             push_line(out, refused.why)?;
-            push_sent(heap, &refused.sent, out)
+            push_sent(&refused.sent, out)
         }
     }
 }
 
-fn push_sent(heap: Global, sent: &Sent, out: &mut Vec<u8>) -> Result<(), AllocError>
+fn push_sent(sent: &Sent, out: &mut Vec<u8>) -> Result<(), AllocError>
     ensures { OnOk result (out.new.items ≡ out.old.items ++ message_lines (sent_of sent.now)) }
 {
     match sent {
         Sent::Nothing => Ok(()),
-        Sent::One(message) => push_message(heap, message, out),
+        Sent::One(message) => push_message(message, out),
         Sent::Two(first, second) => {
-            push_message(heap, first, out)?;
-            push_message(heap, second, out)
+            push_message(first, out)?;
+            push_message(second, out)
         }
     }
 }
 
 // A message's bytes in hexadecimal, on a line. Not a `Display`: the bytes take memory, and the digits of a page go straight behind the others.
-fn push_message(heap: Global, message: &Message, out: &mut Vec<u8>) -> Result<(), AllocError>
+fn push_message(message: &Message, out: &mut Vec<u8>) -> Result<(), AllocError>
     ensures { OnOk result (out.new.items ≡ out.old.items ++ message_line message.now) }
 {
-    let bytes = encode(heap, message)?;
+    let bytes = encode(*out.allocator(), message)?;
     push_hex(out, bytes.as_slice())?;
     out.push(b'\n')?;
     Ok(())

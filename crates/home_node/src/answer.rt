@@ -5,7 +5,7 @@ ghost use Rattle.home_node.specs.declared.answer.Sent.TheVariants.{Nothing};
 use basics::Refusal;
 use model::Message;
 
-// The messages sent, in order. An enum, since an answer takes no memory and so can't fail for want of it.
+// The messages sent, in order. An enum: a `Vec` could fail for want of memory, and an `ArrayVec` wants a message to fill itself with.
 #[derive(Clone, Copy, Debug, PartialEq, Eq)]
 pub enum Sent {
     Nothing,

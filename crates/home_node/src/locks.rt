@@ -1,5 +1,5 @@
 // The lock tables: a number for each station, a holder for each lock, and one line of those who wait.
-ghost use Rattle.std.specs.Prelude.{◌≡◌, ◌≤◌, T, length, vec_capacity};
+ghost use Rattle.std.specs.Prelude.{◌≡◌, ◌≤◌, T, vec_capacity};
 ghost use Rattle.promise.specs.Home.{apart};
 
 use model::{Holder, Waiter};
@@ -8,13 +8,12 @@ pub mod claim;
 mod line;
 mod table;
 
-// A station waits at most once, so the line has room for all of them and never grows.
+// A station waits at most once, so the line has room for all of them and never grows. A `Vec`, since an `ArrayVec` would want a waiter to fill itself with.
 #[derive(Drop)]
 pub struct Locks {
     requested: [u32; 16],
     holders: [Option<Holder>; 64],
     waiting: Vec<Waiter>,
-    ghost each: { length holders ≡ 64 },
     ghost room: { 16 ≤ vec_capacity waiting },
     ghost once: { T (apart waiting.items) },
 }

@@ -10,7 +10,7 @@ mod access;
 mod moves;
 mod start;
 
-// table: of each page its slot, so that a word is found without a search; pages: of each slot its page; dirty: how many words differ from their twins.
+// table: of each page its slot, so that a word is found without a search; pages: of each slot its page, in memory that is taken at the start; dirty: how many words differ from their twins.
 #[derive(Drop)]
 pub struct PageCache {
     table: Vec<Option<u8>>,

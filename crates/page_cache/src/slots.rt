@@ -37,7 +37,7 @@ impl Slots {
         self.copies[index(slot, word)]
     }
 
-    // 1 if copy and twin of the word differ, else 0.
+    // How much the word adds to the count of dirty words: 1 if its copy is not its twin, else 0.
     pub fn dirty_at(&self, slot: u8, word: u32) -> u32
         ensures { result ≡ differs (in_slot (Some slot) (memory self.now.copies.items) (place_of word)) (in_slot (Some slot) (memory self.now.twins.items) (place_of word)) }
     {

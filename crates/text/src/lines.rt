@@ -10,7 +10,7 @@ use std::alloc::Global;
 
 // A line of the program `home`: passed over, a word to be shown, or the bytes of a message. Three kinds with a name each
 // say more than an `Option` would.
-#[derive(Drop)]
+#[derive(Debug, PartialEq, Eq, Drop)]
 pub enum HomeLine {
     Blank,
     Show(u32),

@@ -15,7 +15,7 @@ fn with_digit(n: u32, digit: u8) -> Option<u32>
     }
 }
 
-// The number that digits write.
+// The number that digits write. Not `parse`, which takes a plus sign too.
 pub fn number(digits: &[u8]) -> Option<u32>
     ensures { result ≡ number_of digits.now }
 {

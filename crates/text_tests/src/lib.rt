@@ -5,28 +5,8 @@
 mod tests {
     use basics::Refusal;
     use lines::push_line;
-    use std::alloc::Global;
     use std::test::Fail;
     use text::{Fault, HomeLine, home_line, next_word, number, push_hex, push_number, unhex};
-
-    fn is_no_hex(heap: Global, digits: &[u8]) -> bool {
-        matches!(unhex(heap, digits), Err(Fault::Malformed))
-    }
-
-    fn is_no_line(heap: Global, line: &[u8]) -> bool {
-        matches!(home_line(heap, line), Err(Fault::Malformed))
-    }
-
-    fn is_blank(heap: Global, line: &[u8]) -> bool {
-        matches!(home_line(heap, line), Ok(HomeLine::Blank))
-    }
-
-    fn shown(heap: Global, line: &[u8]) -> Option<u32> {
-        match home_line(heap, line) {
-            Ok(HomeLine::Show(word)) => Some(word),
-            _ => None,
-        }
-    }
 
     #[test]
     fn writes_hex(rt: HostRuntime) -> Result<(), Fail> {
@@ -46,9 +26,9 @@ mod tests {
     #[test]
     fn refuses_other_hex(rt: HostRuntime) {
         let heap = rt.alloc();
-        assert!(rt; is_no_hex(heap, b"abc"));
-        assert!(rt; is_no_hex(heap, b"0g"));
-        assert!(rt; is_no_hex(heap, b" 00 "));
+        assert_eq!(rt; unhex(heap, b"abc"), Err(Fault::Malformed));
+        assert_eq!(rt; unhex(heap, b"0g"), Err(Fault::Malformed));
+        assert_eq!(rt; unhex(heap, b" 00 "), Err(Fault::Malformed));
     }
 
     #[test]
@@ -90,9 +70,9 @@ mod tests {
     #[test]
     fn reads_home_lines(rt: HostRuntime) -> Result<(), Fail> {
         let heap = rt.alloc();
-        assert!(rt; is_blank(heap, b" \r"));
-        assert!(rt; is_blank(heap, b"#show 1 2"));
-        assert_eq!(rt; shown(heap, b"show 7\r"), Some(7));
+        assert_eq!(rt; home_line(heap, b" \r"), Ok(HomeLine::Blank));
+        assert_eq!(rt; home_line(heap, b"#show 1 2"), Ok(HomeLine::Blank));
+        assert_eq!(rt; home_line(heap, b"show 7\r"), Ok(HomeLine::Show(7)));
         let HomeLine::Message(bytes) = home_line(heap, b" 0aFF ")? else {
             return Err(Fail::new("no message"));
         };
@@ -103,11 +83,11 @@ mod tests {
     #[test]
     fn refuses_other_home_lines(rt: HostRuntime) {
         let heap = rt.alloc();
-        assert!(rt; is_no_line(heap, b"show"));
-        assert!(rt; is_no_line(heap, b"show x"));
-        assert!(rt; is_no_line(heap, b"show 1 2"));
-        assert!(rt; is_no_line(heap, b"00 11"));
-        assert!(rt; is_no_line(heap, b"0g"));
-        assert!(rt; is_no_line(heap, b"abc"));
+        assert_eq!(rt; home_line(heap, b"show"), Err(Fault::Malformed));
+        assert_eq!(rt; home_line(heap, b"show x"), Err(Fault::Malformed));
+        assert_eq!(rt; home_line(heap, b"show 1 2"), Err(Fault::Malformed));
+        assert_eq!(rt; home_line(heap, b"00 11"), Err(Fault::Malformed));
+        assert_eq!(rt; home_line(heap, b"0g"), Err(Fault::Malformed));
+        assert_eq!(rt; home_line(heap, b"abc"), Err(Fault::Malformed));
     }
 }

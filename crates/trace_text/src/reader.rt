@@ -8,7 +8,7 @@ use basics::Refusal;
 use trace::{Event, decode};
 
 // The bytes so far of an event that is not whole yet.
-#[derive(Clone, Drop)]
+#[derive(Clone, Debug, PartialEq, Eq, Drop)]
 pub struct Reader {
     part: ArrayVec<u8, 9>,
 }

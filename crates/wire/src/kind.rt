@@ -1,8 +1,9 @@
 // The kinds of messages. The first byte of a message says its kind.
 ghost use Rattle.std.specs.Prelude.{◌≡◌};
-ghost use Rattle.wire.specs.Kinds.{KindOf, number_of};
+ghost use Rattle.wire.specs.Kinds.{KindOf, kind_of, number_of};
 
 use basics::Refusal;
+use model::Message;
 
 #[derive(Clone, Copy, Debug, PartialEq, Eq)]
 pub enum Kind {
@@ -17,6 +18,21 @@ pub enum Kind {
 }
 
 impl Kind {
+    pub fn of(message: &Message) -> Kind
+        ensures { result ≡ kind_of message.now }
+    {
+        match message {
+            Message::PageRequest { .. } => Kind::PageRequest,
+            Message::PageReply { .. } => Kind::PageReply,
+            Message::Diff { .. } => Kind::Diff,
+            Message::DiffApplied { .. } => Kind::DiffApplied,
+            Message::LockRequest { .. } => Kind::LockRequest,
+            Message::LockGranted { .. } => Kind::LockGranted,
+            Message::LockReleased { .. } => Kind::LockReleased,
+            Message::ReleaseTaken { .. } => Kind::ReleaseTaken,
+        }
+    }
+
     // The byte that says this kind.
     pub fn number(self) -> u8
         ensures { result ≡ number_of self }

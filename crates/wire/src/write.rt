@@ -12,22 +12,20 @@ use std::alloc::{AllocError, Global};
 pub fn encode(heap: Global, message: &Message) -> Result<Vec<u8>, AllocError>
     ensures { IfOk result (λ v. v.items ≡ bytes_of message.now) }
 {
+    let kind = Kind::of(message);
     match *message {
         Message::PageRequest {
             station,
             page,
             number,
-        } => Vec::from_slice(heap, &page_head(Kind::PageRequest, station, page, number)),
+        } => Vec::from_slice(heap, &page_head(kind, station, page, number)),
         Message::PageReply {
             station,
             page,
             number,
             words,
         } => {
-            let mut out = Vec::from_slice(
-                heap,
-                &page_head(Kind::PageReply, station, page, number),
-            )?;
+            let mut out = Vec::from_slice(heap, &page_head(kind, station, page, number))?;
             push_words(&mut out, &words)?;
             Ok(out)
         }
@@ -37,37 +35,35 @@ pub fn encode(heap: Global, message: &Message) -> Result<Vec<u8>, AllocError>
             page,
             changes,
         } => {
-            let mut out = Vec::from_slice(
-                heap,
-                &diff_head(station, number, page, change_count(&changes)),
-            )?;
+            let count = change_count(&changes);
+            let mut out = Vec::from_slice(heap, &diff_head(kind, station, number, page, count))?;
             push_changes(&mut out, &changes)?;
             Ok(out)
         }
         Message::DiffApplied { station, number } => {
             let [a, b, c, d] = number.to_be_bytes();
-            Vec::from_slice(heap, &[Kind::DiffApplied.number(), station, a, b, c, d])
+            Vec::from_slice(heap, &[kind.number(), station, a, b, c, d])
         }
         Message::LockRequest {
             station,
             lock,
             number,
-        } => Vec::from_slice(heap, &on_lock(Kind::LockRequest, station, lock, number)),
-        Message::LockGranted {
+        }
+        | Message::LockGranted {
             station,
             lock,
             number,
-        } => Vec::from_slice(heap, &on_lock(Kind::LockGranted, station, lock, number)),
-        Message::LockReleased {
+        }
+        | Message::LockReleased {
             station,
             lock,
             number,
-        } => Vec::from_slice(heap, &on_lock(Kind::LockReleased, station, lock, number)),
-        Message::ReleaseTaken {
+        }
+        | Message::ReleaseTaken {
             station,
             lock,
             number,
-        } => Vec::from_slice(heap, &on_lock(Kind::ReleaseTaken, station, lock, number)),
+        } => Vec::from_slice(heap, &on_lock(kind, station, lock, number)),
     }
 }
 
@@ -79,12 +75,12 @@ fn page_head(kind: Kind, station: u8, page: u16, number: u32) -> [u8; 8]
     [kind.number(), station, p, q, a, b, c, d]
 }
 
-fn diff_head(station: u8, number: u32, page: u16, count: u8) -> [u8; 9]
-    ensures { result ≡ 3 ∷ station ∷ (u32_bytes number ++ (u16_bytes page ++ (count ∷ []))) }
+fn diff_head(kind: Kind, station: u8, number: u32, page: u16, count: u8) -> [u8; 9]
+    ensures { result ≡ number_of kind ∷ station ∷ (u32_bytes number ++ (u16_bytes page ++ (count ∷ []))) }
 {
     let [a, b, c, d] = number.to_be_bytes();
     let [p, q] = page.to_be_bytes();
-    [Kind::Diff.number(), station, a, b, c, d, p, q, count]
+    [kind.number(), station, a, b, c, d, p, q, count]
 }
 
 fn on_lock(kind: Kind, station: u8, lock: u8, number: u32) -> [u8; 7]

@@ -25,8 +25,8 @@ impl Locks {
         })
     }
 
-    #[tactic(auto, using(crate::proofs::Once::once_more, promise::proofs::Queue::apart_room))]
     // A request that is new: granted if nobody holds the lock, else behind all that wait.
+    #[tactic(auto, using(crate::proofs::Once::once_more, promise::proofs::Queue::apart_room))]
     fn admit(&mut self, claim: Claim) -> Sent
         requires waits_not { waits_with claim.station self.old.waiting.items ≡ None }
         ensures { done (sent_of result) (table_of self.new) ≡ admitted (table_of self.old) claim.station claim.lock claim.number (slice_index_or self.old.holders claim.lock None) }
@@ -61,8 +61,8 @@ impl Locks {
         Err(Refusal::StaleNumber.into())
     }
 
+    // The holder gives the lock back, and the first that waits for it holds it. Not by a claim of its own: that its station is there was told of it when it came, and is not kept.
     #[tactic(auto, using(crate::proofs::Once::still_once))]
-    // The holder gives the lock back, and the first that waits for it holds it.
     fn pass_on(&mut self, claim: Claim) -> Sent
         ensures { done (sent_of result) (table_of self.new) ≡ passed_on (table_of self.old) claim.station claim.lock claim.number (first_for claim.lock self.old.waiting.items) }
     {

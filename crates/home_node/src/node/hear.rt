@@ -28,6 +28,7 @@ impl State {
         })
     }
 
+    // What a message names is there: that was tested when it was read, so each step says it of what it uses, and tests it no more.
     pub fn hear(&mut self, message: &Message) -> Result<Sent, Refused>
         requires known { Known message.now }
         ensures { reply_of result (state_of self.new) ≡ hears (state_of self.old) message.now }

@@ -36,7 +36,7 @@ impl PageCache {
         Ok(())
     }
 
-    // Into the next slot.
+    // Into the next slot; `install` has made the tests.
     fn install_next(&mut self, page: u16, words: &[u32; 64])
         requires known { page < 1024 }
         requires absent { is_in page self.old.pages.items ≡ false }

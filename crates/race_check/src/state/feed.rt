@@ -30,7 +30,7 @@ impl Check {
         Ok(())
     }
 
-    // The event is known, and no counter is full.
+    // The event is known, and no counter is full. Anyone can make an event, so that it is known is said here and of the vectors, and tested in `step` alone.
     #[tactic(auto, using(crate::proofs::Taken::writer_known))]
     fn feed(&mut self, event: Event)
         requires known { is_known event ≡ true }
