@@ -1,5 +1,5 @@
 #!/usr/bin/env bash
-# Lists the places in src/ that a search can find of each older form, with their number: tools/old_forms.sh [FOLDER]
+# Lists the places in src/, tests aside, that a search can find of each older form, with their number: tools/old_forms.sh [FOLDER]
 # docs/DESIGN-PASS.md has the numbers before and after, and the places that only reading finds.
 set -uo pipefail
 cd "${1:-$(dirname "$0")/..}"
@@ -8,7 +8,7 @@ places() {
     local title=$1
     shift
     local found
-    found=$("$@" --include='*.rt' -rnE crates/*/src | grep -vE '^[^:]*:[0-9]+:\s*//')
+    found=$("$@" --include='*.rt' -rnE crates/*/src | grep -vE '^[^:]*:[0-9]+:\s*//|_tests/|=> break')
     echo "== $title: $(grep -c . <<<"$found")"
     [ -z "$found" ] || sed -E 's/^crates\///; s/:\s+/: /' <<<"$found"
 }
