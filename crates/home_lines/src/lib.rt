@@ -46,7 +46,7 @@ fn follow(home: &mut Home, line: &HomeLine, out: &mut Vec<u8>) -> Result<(), All
     }
 }
 
-// A refusal first, then what is sent.
+// A refusal first, then what is sent; pushed, as its messages are.
 fn push_answer(answer: Result<Sent, Refused>, out: &mut Vec<u8>) -> Result<(), AllocError>
     ensures { OnOk result (out.new.items ≡ out.old.items ++ answer_lines (refusal_of answer) (told_of answer)) }
 {

@@ -7,6 +7,7 @@ use basics::STATIONS;
 use trace::{Event, Placed};
 use vectors::{Access, LastWrite};
 
+// A count of 0 comes before all, so that no comparison treats it apart, as it would an `Option`.
 const NEVER: Access = Access {
     count: 0,
     place: 0,

@@ -17,7 +17,7 @@ fn digit(n: u8) -> u8
     if n < 10 { b'0' + n } else { b'a' + (n - 10) }
 }
 
-// Appends the digits of `bytes`, two for each. It appends none where they find no room and memory gives none.
+// Appends the digits of `bytes`, two for each. It appends none where they find no room and memory gives none, which no `Display` says.
 pub fn push_hex(out: &mut Vec<u8>, bytes: &[u8]) -> Result<(), AllocError>
     ensures items { out.new.items ≡ (if is_ok result then out.old.items ++ hex_of bytes.now else out.old.items) }
     ensures full { OnErr result (vec_capacity out.old < vec_len out.old + 2 * length bytes.now) }

@@ -25,7 +25,7 @@ pub fn number(digits: &[u8]) -> Option<u32>
     digits.iter().try_fold(0, |n, digit| with_digit(n, *digit))
 }
 
-// Appends the digits of `n`. It appends none where they find no room and memory gives none.
+// Appends the digits of `n`. It appends none where they find no room and memory gives none, which no `Display` says.
 pub fn push_number(out: &mut Vec<u8>, n: u32) -> Result<(), AllocError>
     ensures items { out.new.items ≡ (if is_ok result then out.old.items ++ decimal n else out.old.items) }
     ensures full { OnErr result (vec_capacity out.old < vec_len out.old + length (decimal n)) }

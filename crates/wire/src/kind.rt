@@ -33,7 +33,7 @@ impl Kind {
         }
     }
 
-    // The byte that says this kind.
+    // The byte that says this kind. A method, since `u8::from(kind)` would not say which byte it is.
     pub fn number(self) -> u8
         ensures { result ≡ number_of self }
     {

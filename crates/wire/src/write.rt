@@ -90,6 +90,7 @@ fn on_lock(kind: Kind, station: u8, lock: u8, number: u32) -> [u8; 7]
     [kind.number(), station, lock, a, b, c, d]
 }
 
+// Bytes, not text: no `Display` writes them.
 fn push_words(out: &mut Vec<u8>, words: &[u32; 64]) -> Result<(), AllocError>
     ensures { OnOk result (out.new.items ≡ out.old.items ++ word_bytes words.now) }
 {
