@@ -1,11 +1,9 @@
 -- A whole trace fed to the check, one event after the other. Assumes nothing.
-use Rattle.std.proofs.Common.{◌≡◌, ℕ, ◌+◌, ◌<◌, ◌≤◌, List, [], ◌∷◌, length, get_or, drop, Ok, Err, Result, sym, refl, ap, ◌∙◌}
-use Rattle.std.proofs.lemmas.List.{at_drop_more, at_drop_all}
+use Rattle.std.proofs.Common.{◌≡◌, ℕ, ◌+◌, ◌<◌, List, [], ◌∷◌, length, get_or, drop, Ok, Err, Result, sym, refl, ap, ◌∙◌}
+use Rattle.std.proofs.lemmas.List.{at_drop_more}
 use Rattle.basics.specs.declared.Refusal.{Refusal}
 use Rattle.trace.specs.declared.Event.{Event}
-use Rattle.trace.specs.declared.Verdict.{Verdict}
 use Rattle.vectors.specs.Check.{Tables}
-use Rattle.vectors.specs.Laws.{Judged}
 use Rattle.vectors.proofs.Latest.{places_are}
 use Rattle.race_check.specs.declared.whole.Unchecked.TheVariants.{Refused}
 use Rattle.race_check.specs.Checks.{accepted, Fed}
@@ -18,15 +16,7 @@ pub record FedTo (t : Tables) (events : List Event) (i : ℕ) : Type 0 where
   pub led : Led t trace
   pub rest : fed_all trace (drop i events) ≡ fed_all [] events
 
-pub fed_none : (t : Tables) (events : List Event) → Led t [] → FedTo t events 0
-fed_none t events l = record { trace = []; led = l; rest = refl }
-
 module _ {t : Tables} (events : List Event) (i : ℕ) (f : FedTo t events i) where
-  pub fed_end : length events ≤ i → (v : Verdict) → ((es : List Event) → Led t es → Judged es v) → Checked (Ok v) (fed_all [] events)
-  fed_end h v judged =
-      let all : fed_all [] events ≡ Ok f.trace = sym f.rest ∙ at_drop_all (fed_all f.trace) events i h in
-      rw all (judged f.trace f.led)
-
   module _ (e d : Event) (is : e ≡ get_or events i d) (h : i < length events) (r : Result (Unit {0}) Refusal) (answer : r ≡ accepted t.places e) where
     places : t.places ≡ length f.trace
     places = ap (λ u. u.places) f.led.leads ∙ places_are f.trace
