@@ -10,7 +10,7 @@ ghost use Rattle.home_lines.specs.Output.{message_line, message_lines, answer_li
 
 use basics::Refusal;
 use home_node::{Home, Refused, Sent};
-use lines::push_line;
+use lines::{push_refusal, push_value};
 use model::Message;
 use std::alloc::{AllocError, Global};
 use text::{Fault, HomeLine, home_line, push_hex};
@@ -25,7 +25,7 @@ pub fn respond(heap: Global, home: &mut Home, input: &[u8], out: &mut Vec<u8>) -
 {
     match home_line(heap, input) {
         Ok(line) => follow(home, &line, out)?,
-        Err(Fault::Malformed) => push_line(out, Refusal::Malformed)?,
+        Err(Fault::Malformed) => push_refusal(out, Refusal::Malformed)?,
         Err(Fault::Memory) => return Err(Fault::Memory),
     }
     Ok(())
@@ -39,8 +39,8 @@ fn follow(home: &mut Home, line: &HomeLine, out: &mut Vec<u8>) -> Result<(), All
     match line {
         HomeLine::Blank => Ok(()),
         HomeLine::Show(word) => match home.word(*word) {
-            Ok(value) => push_line(out, value),
-            Err(why) => push_line(out, why),
+            Ok(value) => push_value(out, value),
+            Err(why) => push_refusal(out, why),
         },
         HomeLine::Message(bytes) => push_answer(home.receive(bytes.as_slice()), out),
     }
@@ -53,7 +53,7 @@ fn push_answer(answer: Result<Sent, Refused>, out: &mut Vec<u8>) -> Result<(), A
     match answer {
         Ok(sent) => push_sent(&sent, out),
         Err(refused) => {
-            push_line(out, refused.why)?;
+            push_refusal(out, refused.why)?;
             push_sent(&refused.sent, out)
         }
     }

@@ -4,7 +4,7 @@
 #[cfg(test)]
 mod tests {
     use basics::Refusal;
-    use lines::push_line;
+    use lines::{push_line, push_numbered, push_refusal, push_value};
     use std::test::Fail;
     use text::{Fault, HomeLine, home_line, next_word, number, push_hex, push_number, unhex};
 
@@ -56,6 +56,16 @@ mod tests {
         push_line(&mut out, 4294967295u32)?;
         push_line(&mut out, Refusal::LockState)?;
         assert!(rt; out.as_slice() == b"4294967295\nturned away 6\n".as_slice());
+        Ok(())
+    }
+
+    #[test]
+    fn writes_values_and_refusals(rt: HostRuntime) -> Result<(), Fail> {
+        let mut out = Vec::new(rt.alloc());
+        push_value(&mut out, 4294967295)?;
+        push_refusal(&mut out, Refusal::LockState)?;
+        push_numbered(&mut out, b"stale ", 15)?;
+        assert!(rt; out.as_slice() == b"4294967295\nturned away 6\nstale 15".as_slice());
         Ok(())
     }
 

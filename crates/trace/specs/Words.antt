@@ -1,15 +1,11 @@
 -- What programs print of events, races and verdicts. Assumes nothing.
 use Rattle.std.specs.Prelude.{ℕ, List, ◌++◌, Some, None, codes, decimal, Option}
-use Rattle.basics.specs.Lines.{line}
+use Rattle.basics.specs.Lines.{line, numbered}
 use Rattle.trace.specs.declared.Event.{Event}
 use Rattle.trace.specs.declared.Event.TheVariants.{Read, Write, Acquire, Release}
 use Rattle.trace.specs.declared.Placed.{Placed}
 use Rattle.trace.specs.declared.Race.{Race}
 use Rattle.trace.specs.declared.Verdict.{Verdict}
-
--- some words with a number behind them
-abbrev pub numbered : List ℕ → ℕ → List ℕ
-numbered words n = words ++ decimal n
 
 -- an event in words
 abbrev pub in_words : Event → List ℕ
