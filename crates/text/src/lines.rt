@@ -39,12 +39,14 @@ pub fn home_line(heap: Global, line: &[u8]) -> Result<HomeLine, Fault>
     ensures { MatchResult result (λ l. meaning_of line.now ≡ Some (meant l)) (λ e. Refuses e (meaning_of line.now)) }
 {
     let (word, rest) = next_word(line);
+    // before the rest of the line is looked at, which may be long where it is a comment
+    if let [] | [b'#', ..] = word {
+        return Ok(HomeLine::Blank);
+    }
     let (second, rest) = next_word(rest);
-    let (third, _) = next_word(rest);
-    match (word, second, third) {
-        ([] | [b'#', ..], _, _) => Ok(HomeLine::Blank),
-        (_, [], _) => unhex(heap, word).map(HomeLine::Message),
-        (_, _, []) if word == b"show".as_slice() => {
+    match second {
+        [] => unhex(heap, word).map(HomeLine::Message),
+        _ if word == b"show".as_slice() && next_word(rest).0.is_empty() => {
             number(second).map(HomeLine::Show).ok_or(Fault::Malformed)
         }
         _ => Err(Fault::Malformed),

@@ -6,7 +6,7 @@ use Rattle.text.specs.Line.{Bytes, meaning_of}
 use Rattle.text.proofs.LineSteps.{read_message}
 use Rattle.text.proofs.lines.home_line.Goals as goal
 
-pub returns-in_default-empty-default : goal.returns-in_default-empty-default
-returns-in_default-empty-default c =
+pub returns-in-empty-second : goal.returns-in-empty-second
+returns-in-empty-second c =
     let meaning : meaning_of c.args.line.now ≡ option_map Bytes (bytes_from c.next_word.result.0.now) = grind (arith, nat_tests) in
     read_message _ _ _ _ meaning c.unhex.ensures c.map.ensures.cases
