@@ -50,7 +50,7 @@ pub judged : (t : Tables) (es : List Event) → Led t es → Judged es (verdict_
 judged t es l = rw l.leads (check_tells es l.known)
 
 -- a next event that acquires nothing has its station's vector
-vector_tells : (t : Tables) (v : Vector) (i : ℕ) (es : List Event) (next : Event) → Led t es → by next ≡ i → acquires next ≡ None → v ≡ t.clocks.station i → Tells v es next
+pub vector_tells : (t : Tables) (v : Vector) (i : ℕ) (es : List Event) (next : Event) → Led t es → by next ≡ i → acquires next ≡ None → v ≡ t.clocks.station i → Tells v es next
 vector_tells t v i es next l b a e =
     let own : before (after es).clocks next ≡ (after es).clocks.station (by next) = ap (λ o. joined (after es).clocks.lock o ((after es).clocks.station (by next))) a in
     let same : v ≡ before (after es).clocks next = e ∙ ap (λ u. u.clocks.station i) l.leads ∙ ap (λ j. (after es).clocks.station j) (sym b) ∙ sym own in

@@ -11,7 +11,7 @@ pub none_at_first : (v : Vector) (w : ℕ) (rs : ℕ → Access) → None ≡ un
 unfolding unordered_read
 none_at_first v w rs = refl
 
-with_next : (v : Vector) (w : ℕ) (rs : ℕ → Access) (j : ℕ) → later (unordered_read j v w rs) (unordered v j (rs j) (Read j w (rs j).value)) ≡ unordered_read (suc j) v w rs
+pub with_next : (v : Vector) (w : ℕ) (rs : ℕ → Access) (j : ℕ) → later (unordered_read j v w rs) (unordered v j (rs j) (Read j w (rs j).value)) ≡ unordered_read (suc j) v w rs
 unfolding unordered_read
 with_next v w rs j = refl
 

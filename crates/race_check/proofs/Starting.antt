@@ -5,19 +5,21 @@ use Rattle.basics.proofs.Tables.{fill_at, filled}
 use Rattle.vectors.specs.Check.{never, empty}
 use Rattle.race_check.specs.declared.clocks.VectorClocks.{VectorClocks}
 use Rattle.race_check.specs.declared.history.WordHistory.{WordHistory}
-use Rattle.race_check.specs.Rows.{vectors_of, accesses_of, reads_of, writes_of, word_of, untouched}
+use Rattle.race_check.specs.Rows.{accesses_of, reads_of, writes_of, word_of, untouched}
 use Rattle.race_check.specs.States.{clocks_of, tables_of, Led}
 
-row_filled : (n i j : ℕ) → vectors_of (replicate n (replicate 16 0)) i j ≡ 0
-row_filled zero i j = refl
-row_filled (suc n) zero j = fill_at 0 16 j
-row_filled (suc n) (suc i) j = row_filled n i j
+-- an entry of n rows of m entries each, all of them d
+row_filled : {A : Type 0} (d : A) (m n i j : ℕ) → get_or (get_or (replicate n (replicate m d)) i []) j d ≡ d
+row_filled d m zero i j = refl
+row_filled d m (suc n) zero j = fill_at d m j
+row_filled d m (suc n) (suc i) j = row_filled d m n i j
 
-rows_filled : (n : ℕ) → vectors_of (replicate n (replicate 16 0)) ≡ (λ i j. 0)
-rows_filled n = fun_ext (λ i. fun_ext (row_filled n i))
+-- all of their entries
+pub rows_filled : {A : Type 0} (d : A) (m n : ℕ) → ◌≡◌ {A = ℕ → ℕ → A} (λ i j. get_or (get_or (replicate n (replicate m d)) i []) j d) (λ i j. d)
+rows_filled d m n = fun_ext (λ i. fun_ext (λ j. row_filled d m n i j))
 
 pub clocks_start : clocks_of (record { stations = replicate 16 (replicate 16 0); locks = replicate 64 (replicate 16 0) }) ≡ empty.clocks
-clocks_start = rw (rows_filled 16, rows_filled 64) refl
+clocks_start = rw (rows_filled {A = ℕ} 0 16 16, rows_filled {A = ℕ} 0 16 64) refl
 
 -- every word has the history h, which is that of a word that was not touched
 pub started :

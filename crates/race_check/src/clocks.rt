@@ -9,7 +9,7 @@ use std::array;
 use trace::Event;
 
 // Of each station how many events of each station come before its next; of each lock the greatest of the vectors of all its releases so far.
-#[derive(Debug, PartialEq, Eq, Drop)]
+#[derive(Clone, Copy, Debug, PartialEq, Eq)]
 pub struct VectorClocks {
     pub stations: [[u32; 16]; 16],
     pub locks: [[u32; 16]; 64],

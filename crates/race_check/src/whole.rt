@@ -1,6 +1,8 @@
 // The check of a whole trace that lies in memory.
 ghost use Rattle.std.specs.Prelude.{◌≡◌, [], Some};
 ghost use Rattle.race_check.specs.declared.whole.Unchecked.TheVariants.{Memory, Refused};
+ghost use Rattle.race_check.specs.Checks.{check_of};
+ghost use Rattle.race_check.specs.States.{Led};
 ghost use Rattle.race_check.specs.Whole.{fed_all, unchecked_words, Checked};
 
 use crate::state::Check;
@@ -50,7 +52,14 @@ impl From<AllocError> for Unchecked {
 pub fn check(heap: Global, events: &[Event]) -> Result<Verdict, Unchecked>
     ensures { Checked result (fed_all [] events.now) }
 {
-    let mut check = Check::new(heap)?;
+    fed_all(Check::new(heap)?, events)
+}
+
+// A check that was fed nothing is fed the events one after the other.
+fn fed_all(mut check: Check, events: &[Event]) -> Result<Verdict, Unchecked>
+    requires { Led (check_of check) [] }
+    ensures { Checked result (fed_all [] events.now) }
+{
     for event in events {
         check.step(*event)?;
     }
