@@ -36,7 +36,8 @@ pub fn encode(heap: Global, message: &Message) -> Result<Vec<u8>, AllocError>
             changes,
         } => {
             let count = change_count(&changes);
-            let mut out = Vec::from_slice(heap, &diff_head(kind, station, number, page, count))?;
+            let mut out = Vec::with_capacity(heap, 9 + 5 * usize::from(count))?;
+            out.extend_from_slice(&diff_head(kind, station, number, page, count))?;
             push_changes(&mut out, &changes)?;
             Ok(out)
         }
