@@ -1,14 +1,28 @@
 -- The walk along a page's words that collects those that differ: what it has found below a place.
-use Rattle.std.proofs.Common.{◌≡◌, ℕ, zero, suc, ◌+◌, ◌<◌, ◌≤◌, List, [], ◌∷◌, length, get_or, set, replicate, Some, None, Option, sym, refl, ap, ◌∙◌, arith, rules, below_more}
-use Rattle.std.proofs.lemmas.List.FromFn.{fill_by_all}
-use Rattle.std.proofs.lemmas.List.{places, same_lists, get_or_default}
-use Rattle.std.proofs.lemmas.Bool.{eq-eqb, ne_eqb}
+use Rattle.std.proofs.Common.{◌≡◌, ℕ, zero, suc, ◌+◌, ◌<◌, ◌≤◌, List, [], ◌∷◌, ◌++◌, map, length, get_or, set, replicate, Some, None, Option, sym, refl, ap, ◌∙◌, inl, inr, arith, rules, below_more}
+use Rattle.std.specs.List.{range_with_len}
+use Rattle.std.proofs.lemmas.List.FromFn.{length-map-range_with_len, get_or-map-range_with_len, fill_by_all}
+use Rattle.std.proofs.lemmas.List.{places, same_lists, get_or_default, get_or_past}
+use Rattle.std.proofs.lemmas.Bool.{eq-eqb, ne_eqb, cases_lt}
 use Rattle.basics.proofs.Tables.{fill_at}
 use Rattle.model.specs.Bytes.{change_count}
 use Rattle.model.specs.Cache.{change, changes_at}
 use Rattle.pages.specs.Memory.{memory}
 
--- one more change
+-- a change counts for one
+abbrev one : Option ℕ → ℕ
+one None = 0
+one (Some v) = 1
+
+-- one more change at the end
+pub count_push : (cs : List (Option ℕ)) (c : Option ℕ) → change_count (cs ++ (c ∷ [])) ≡ change_count cs + one c
+unfolding change_count
+count_push [] None = refl
+count_push [] (Some v) = refl
+count_push (None ∷ cs) c = count_push cs c
+count_push (Some v ∷ cs) c = let h = count_push cs c in omega arith
+
+-- one more change at a place that had none
 count_set : (cs : List (Option ℕ)) (i v : ℕ) → i < length cs → get_or cs i None ≡ None → change_count (set cs i (Some v)) ≡ change_count cs + 1
 unfolding change_count
 count_set [] i v h none = absurd (omega arith)
@@ -23,6 +37,22 @@ count_few [] = omega arith
 count_few (None ∷ cs) = let h = count_few cs in omega arith
 count_few (Some v ∷ cs) = let h = count_few cs in omega arith
 
+-- where no place has a change the count is 0
+none_counted : (cs : List (Option ℕ)) → ((k : ℕ) → get_or cs k None ≡ None) → change_count cs ≡ 0
+unfolding change_count
+none_counted [] h = refl
+none_counted (None ∷ cs) h = none_counted cs (λ k. h (suc k))
+none_counted (Some v ∷ cs) h = let e = h 0 in cc
+
+-- the same changes at the same places count the same, also where one list is longer
+same_counted : (cs ds : List (Option ℕ)) → ((k : ℕ) → get_or cs k None ≡ get_or ds k None) → change_count cs ≡ change_count ds
+unfolding change_count
+same_counted [] ds h = sym (none_counted ds (λ k. sym (h k)))
+same_counted cs [] h = none_counted cs h
+same_counted (None ∷ cs) (None ∷ ds) h = same_counted cs ds (λ k. h (suc k))
+same_counted (Some v ∷ cs) (Some x ∷ ds) h = let e = same_counted cs ds (λ k. h (suc k)) in omega arith
+same_counted (c ∷ cs) (d ∷ ds) h = let e = h 0 in cc
+
 -- copy: the copy; old, twin: the twin as it was and as it is; i: the place
 pub record Collected (copy old twin : List ℕ) (changes : List (Option ℕ)) (count i : ℕ) : Type 0 where
   pub same : (k : ℕ) → k < i → get_or twin k 0 ≡ get_or copy k 0
@@ -32,8 +62,23 @@ pub record Collected (copy old twin : List ℕ) (changes : List (Option ℕ)) (c
   pub size : length changes ≡ 64
   pub tally : count ≡ change_count changes
 
-pub few_collected : {copy old twin : List ℕ} {changes : List (Option ℕ)} {count i : ℕ} → Collected copy old twin changes count i → count ≤ 64
-few_collected {copy} {old} {twin} {changes} {count} {i} w = omega (arith, w.tally, w.size, count_few changes)
+module _ {copy old twin : List ℕ} {changes : List (Option ℕ)} {count i : ℕ} (w : Collected copy old twin changes count i) where
+  -- the count is that of the changes below the place
+  pub tallied : count ≡ change_count (map (change (memory copy) (memory old)) (range_with_len 0 i))
+  tallied =
+      let f = change (memory copy) (memory old) in
+      w.tally ∙ same_counted changes (map f (range_with_len 0 i))
+      (λ k.
+      elim (cases_lt k i) [
+        | inl h ↦ w.found k h ∙ sym (get_or-map-range_with_len f 0 i k k None h (omega arith))
+        | inr h ↦ w.none k h ∙ sym (get_or_past (map f (range_with_len 0 i)) k None (omega (arith, length-map-range_with_len f 0 i)))
+      ])
+
+  -- so it is no more than the place
+  pub few_collected : count ≤ i
+  few_collected =
+      let f = change (memory copy) (memory old) in
+      omega (arith, tallied, count_few (map f (range_with_len 0 i)), length-map-range_with_len f 0 i)
 
 pub none_collected : (copy twin : List ℕ) → Collected copy twin twin (replicate 64 None) 0 0
 unfolding change_count

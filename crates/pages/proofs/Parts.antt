@@ -47,9 +47,9 @@ module _ {p a n : ℕ} {ws : List ℕ} (here : IsPart p a n ws) where
       let below : k < 64 = omega (arith, length-map-range_with_len (memory ws) (64 * p) 64) in
       get_or-map-range_with_len (memory ws) (64 * p) 64 k (a + k) d below (omega arith) ∙ search (rules, places))
 
--- a word of a page's part is a word of the page
-pub part_word : {p a n : ℕ} {ws : List ℕ} → IsPart p a n ws → (k : ℕ) → k < 64 → get_or (take n (drop a ws)) k 0 ≡ memory ws (a + k)
-part_word {p} {a} {n} {ws} here k h = search (rules, places)
+-- a word of a page's part is a word of the page, also past the end of the words
+pub part_word : (ws : List ℕ) (a n k : ℕ) → n ≡ 64 → k < 64 → get_or (take n (drop a ws)) k 0 ≡ memory ws (a + k)
+part_word ws a n k size h = search (rules, places)
 
 -- the words after a page's part was written: in the page what was written, all others as they were
 module _ {p a n : ℕ} {ws : List ℕ} (here : IsPart p a n ws) (part : List ℕ) (as_long : length part ≡ length (take n (drop a ws))) where
@@ -89,25 +89,30 @@ module _ {p a n : ℕ} {ws : List ℕ} (here : IsPart p a n ws) (part : List ℕ
       (changes : List (Option ℕ)) → ((k : ℕ) → k < 64 → get_or part k 0 ≡ unwrap_or (get_or changes k None) (get_or (take n (drop a ws)) k 0)) → memory (put_mid a n ws part) ≡ patched p changes (memory ws)
   patched_part changes new =
       written_page (λ w. unwrap_or (get_or changes (w % 64) None) (memory ws w))
-      (λ k h. let place : (a + k) % 64 ≡ k = omega arith in new k h ∙ rw (place, part_word here k h))
+      (λ k h. let place : (a + k) % 64 ≡ k = omega arith in new k h ∙ rw (place, part_word ws a n k here.size h))
+
+-- a diff of two parts is the diff of the page, also past the end of the words
+pub cut_changes :
+    (cs ts : List ℕ) (p a n b m : ℕ) → a ≡ 64 * p → n ≡ 64 → b ≡ 64 * p → m ≡ 64 →
+    changes_at 0 (memory (take n (drop a cs))) (memory (take m (drop b ts))) ≡ changes_at p (memory cs) (memory ts)
+unfolding changes_at
+cut_changes cs ts p a n b m starts size begins sized =
+    same_ranges (change (memory (take n (drop a cs))) (memory (take m (drop b ts)))) (change (memory cs) (memory ts)) (64 * 0) (64 * p) 64
+    (λ k below.
+    let here : 64 * 0 + k ≡ k = omega arith in
+    rw (here, part_word cs a n k size below, part_word ts b m k sized below, starts, begins))
 
 -- copy and twin of one page
 module _ {p a n b m : ℕ} {cs ts : List ℕ} (copy : IsPart p a n cs) (twin : IsPart p b m ts) where
   same_start : b ≡ a
   same_start = twin.starts ∙ sym copy.starts
 
-  -- a diff of two parts is the diff of the page
+  -- so is that of two parts that lie inside
   pub part_changes : changes_at 0 (memory (take n (drop a cs))) (memory (take m (drop b ts))) ≡ changes_at p (memory cs) (memory ts)
-  unfolding changes_at
-  part_changes =
-      same_ranges (change (memory (take n (drop a cs))) (memory (take m (drop b ts)))) (change (memory cs) (memory ts)) (64 * 0) (64 * p) 64
-      (λ k below.
-      let here : 64 * 0 + k ≡ k = omega arith in
-      let there : 64 * p + k ≡ a + k = omega (arith, copy.starts) in
-      rw (here, there, part_word copy k below, part_word twin k below, same_start))
+  part_changes = cut_changes cs ts p a n b m copy.starts copy.size twin.starts twin.size
 
   -- the twin's part became the copy's
   pub flushed_part : (part : List ℕ) → length part ≡ length (take m (drop b ts)) → part ≡ take n (drop a cs) → memory (put_mid b m ts part) ≡ on_page p (memory cs) (memory ts)
   flushed_part part as_long is =
       written_page twin part as_long (memory cs)
-      (λ k h. ap (λ words. get_or words k 0) is ∙ part_word copy k h ∙ ap (λ i. memory cs (i + k)) (sym same_start))
+      (λ k h. ap (λ words. get_or words k 0) is ∙ part_word cs a n k copy.size h ∙ ap (λ i. memory cs (i + k)) (sym same_start))

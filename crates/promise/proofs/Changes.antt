@@ -38,6 +38,16 @@ next_told : (place : ℕ) (bs : List ℕ) → is_next place bs ≡ true → (0 <
 next_told place [] e = absurd (false≢true e)
 next_told place (b ∷ bs) e = (omega arith, eqb-true b place e)
 
+-- a change or none for each place, whatever the bytes
+pub length_changes : (n place : ℕ) (bs : List ℕ) → length (changes_from n place bs) ≡ n
+unfolding changes_from
+length_changes zero place bs = refl
+length_changes (suc n) place bs =
+    elim (cases_Bool (is_next place bs)) [
+      | inl y ↦ rw (y, length_changes n (suc place) (drop 5 bs))
+      | inr y ↦ rw (y, length_changes n (suc place) bs)
+    ]
+
 -- What was read: a change or none for each place, in range; and if nothing is left, written as the bytes, five for each change.
 pub record Changed (n place : ℕ) (bs : List ℕ) : Type 0 where
   pub many : length (changes_from n place bs) ≡ n
@@ -53,7 +63,7 @@ changes_read (suc n) place bs h =
           let first = next_told place bs y in
           let r = changes_read n (suc place) (drop 5 bs) (bytes_drop 5 bs h) in
           record {
-            many = rw (y, r.many);
+            many = length_changes (suc n) place bs;
             fit = rw y (word_fits bs 1 h, r.fit);
             written = λ k l none.
                 let rest = r.written (k - 1) (simp length-drop (omega arith)) (rw y at none) in
@@ -61,5 +71,5 @@ changes_read (suc n) place bs h =
           }
       | inr y ↦
           let r = changes_read n (suc place) bs h in
-          record { many = rw (y, r.many); fit = rw y (tt, r.fit); written = λ k l none. rw (y, r.written k l (rw y at none)) }
+          record { many = length_changes (suc n) place bs; fit = rw y (tt, r.fit); written = λ k l none. rw (y, r.written k l (rw y at none)) }
     ]

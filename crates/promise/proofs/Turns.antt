@@ -1,9 +1,12 @@
 -- One lock's turns, on the lists of its requests, releases and grants alone: what each step does to them, and that the grants
 -- go in turn. Assumes nothing.
-use Rattle.std.proofs.Common.{◌≡◌, ◌+◌, min, List, [], ◌++◌, length, take, Some, None, Option, sym, refl, ap, arith}
-use Rattle.std.proofs.lemmas.List.{length-append, take_at}
+use Rattle.std.proofs.Common.{◌≡◌, ◌+◌, min, List, [], ◌∷◌, ◌++◌, length, take, Some, None, Option, sym, refl, ap, arith}
+use Rattle.std.proofs.lemmas.List.{append-nil, append_assoc, length-append, take_at}
 use Rattle.std.specs.Option.{option_to_list}
 use Rattle.model.specs.declared.Holder.{Holder}
+
+-- lists joined
+ruleset joined = (arith, append-nil, append_assoc)
 
 -- asked, back, grants: the requests, the releases and the grants; queue: those who wait
 pub record Turn (asked back grants : List Holder) (holder : Option Holder) (queue : List Holder) : Type 0 where
@@ -13,6 +16,27 @@ pub record Turn (asked back grants : List Holder) (holder : Option Holder) (queu
   pub line : asked ≡ grants ++ queue
   -- nobody waits for a lock that nobody holds
   pub idle : holder ≡ None → queue ≡ []
+
+module _ {asked back grants queue : List Holder} where
+  -- a free lock is granted at once
+  pub turn_granted : (x : Holder) → Turn asked back grants None queue → Turn (asked ++ (x ∷ [])) (back ++ []) (grants ++ (x ∷ [])) (Some x) queue
+  turn_granted x t = grind joined
+
+  -- who asks for a lock that is held waits behind the others
+  pub turn_queued : (y x : Holder) → Turn asked back grants (Some y) queue → Turn (asked ++ (x ∷ [])) (back ++ []) (grants ++ []) (Some y) (queue ++ (x ∷ []))
+  turn_queued y x t = grind joined
+
+  -- the lock goes to the first that waits
+  pub turn_passed : (y x : Holder) → Turn asked back grants (Some y) (x ∷ queue) → Turn (asked ++ []) (back ++ (y ∷ [])) (grants ++ (x ∷ [])) (Some x) queue
+  turn_passed y x t = grind joined
+
+  -- and nothing else changes it
+  pub turn_same : {o : Option Holder} → Turn asked back grants o queue → Turn (asked ++ []) (back ++ []) (grants ++ []) o queue
+  turn_same t = simp append-nil t
+
+-- a lock that nobody waits for is free when it is given back
+pub turn_freed : {asked back grants : List Holder} (y : Holder) → Turn asked back grants (Some y) [] → Turn (asked ++ []) (back ++ (y ∷ [])) (grants ++ []) None []
+turn_freed y t = grind joined
 
 -- The grants are the beginning of the requests, as many as there are requests and one more than there are releases.
 pub turn_taken :

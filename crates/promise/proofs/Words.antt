@@ -16,6 +16,12 @@ unfolding word_bytes words_from
 words_back [] h = refl
 words_back (w ∷ ws) h = rw (word_back w h.0, words_back ws h.1)
 
+-- as many words as were asked for, whatever the bytes
+pub length_words : (n : ℕ) (bs : List ℕ) → length (words_from n bs) ≡ n
+unfolding words_from
+length_words zero bs = refl
+length_words (suc n) bs = ap suc (length_words n (drop 4 bs))
+
 -- what was read: as many words as were asked for, each in range, written as the bytes
 pub record Read (n : ℕ) (bs : List ℕ) : Type 0 where
   pub many : length (words_from n bs) ≡ n
@@ -28,7 +34,7 @@ words_read zero bs h = record { many = refl; fit = tt; written = λ l. sym (nil_
 words_read (suc n) bs h =
     let r = words_read n (drop 4 bs) (bytes_drop 4 bs h) in
     record {
-      many = ap suc r.many;
+      many = length_words (suc n) bs;
       fit = (word_fits bs 0 h, r.fit);
       written = λ l. rw (r.written (simp length-drop (omega arith))) (word_written bs 0 h (omega arith));
     }

@@ -23,7 +23,7 @@ index_cases es f m h =
     grind arith
 
 -- an event's own index is below the count of its station's events
-index_within : (es : List Event) (m : ℕ) {e : Event} → event_at es m ≡ Some e → count (by e) (earlier m es) < count (by e) es
+pub index_within : (es : List Event) (m : ℕ) {e : Event} → event_at es m ≡ Some e → count (by e) (earlier m es) < count (by e) es
 index_within [] m h = cc
 index_within (f ∷ es) m h = grind (arith, nat_tests, index_cases es f m h, index_within es m)
 

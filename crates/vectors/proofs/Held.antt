@@ -57,25 +57,28 @@ module _ (es : List Event) (e : Event) where
   pub open_with : Of (Open es e) (unordered_with (after es) e)
   open_with = later_of (Open es e) _ _ (write_open (either (reads e) (writes e)) refl) (reads_open (writes e) refl)
 
-  -- an event of the trace that conflicts with the next one and does not come before it
-  module _ (known : Known es) (free : RaceFree es) (m : ℕ) (f : Event) (h : event_at es m ≡ Some f) (c : Conflict f e) (apart : Precedes es e m → ⊥) where
-    -- all writes of a word are ordered, for want of races
-    write_reaches : (w : ℕ) → writes f ≡ Some w → Reaches m (against_write (after es) v (Some w))
-    write_reaches w k =
-        last_reaches es e (Writes w) _ _ _ m f h k apart
-        (λ p g there l r. free m p (record { earlier = f; later = g; at_first = h; at_second = there; rising = r; conflict = two_writes f g w k l }))
-        (last_write es w)
+  -- an event of the trace
+  module _ (known : Known es) (free : RaceFree es) (m : ℕ) (f : Event) (h : event_at es m ≡ Some f) where
+    -- that does not come before the next one
+    module _ (apart : Precedes es e m → ⊥) where
+      -- all writes of a word are ordered, for want of races
+      write_reaches : (w : ℕ) → writes f ≡ Some w → Reaches m (against_write (after es) v (Some w))
+      write_reaches w k =
+          last_reaches es e (Writes w) _ _ _ m f h k apart
+          (λ p g there l r. free m p (record { earlier = f; later = g; at_first = h; at_second = there; rising = r; conflict = two_writes f g w k l }))
+          (last_write es w)
 
-    -- all reads of one station are ordered
-    read_reaches : (w : ℕ) → reads f ≡ Some w → Reaches m (against_reads (after es) v (Some w))
-    read_reaches w k =
-        reads_reach v w ((after es).read w) m (by f) 16 (known_at es known m f h)
-        (last_reaches es e (ReadsBy w (by f)) (by f) ((after es).read w (by f)) _ m f h (k, refl) apart
-        (λ p g there l r. own f g h there r (sym l.1)) (last_read es w (by f)))
+      -- all reads of one station are ordered
+      read_reaches : (w : ℕ) → reads f ≡ Some w → Reaches m (against_reads (after es) v (Some w))
+      read_reaches w k =
+          reads_reach v w ((after es).read w) m (by f) 16 (known_at es known m f h)
+          (last_reaches es e (ReadsBy w (by f)) (by f) ((after es).read w (by f)) _ m f h (k, refl) apart
+          (λ p g there l r. own f g h there r (sym l.1)) (last_read es w (by f)))
 
-    pub reach_with : Reaches m (unordered_with (after es) e)
-    reach_with =
+    -- one that conflicts with the next one and does not come before it
+    pub reach_with : Conflict f e → (Precedes es e m → ⊥) → Reaches m (unordered_with (after es) e)
+    reach_with c apart =
         elim (meets f e c) [
-          | on_write w a b ↦ reaches_left m _ (against_reads (after es) v (writes e)) (rw b (write_reaches w a))
-          | on_read w a b ↦ reaches_right m (against_write (after es) v (either (reads e) (writes e))) _ (rw b (read_reaches w a))
+          | on_write w a b ↦ reaches_left m _ (against_reads (after es) v (writes e)) (rw b (write_reaches apart w a))
+          | on_read w a b ↦ reaches_right m (against_write (after es) v (either (reads e) (writes e))) _ (rw b (read_reaches apart w a))
         ]

@@ -1,5 +1,5 @@
 -- What happens before the next event is what reaches an event of its station or, where it acquires a lock, a release of that lock. Assumes nothing.
-use Rattle.std.proofs.Common.{◌≡◌, ℕ, suc, ◌≤◌, ◌⊎◌, List, ◌∷◌, length, Some, refl, inl, inr, arith}
+use Rattle.std.proofs.Common.{◌≡◌, ℕ, suc, ◌≤◌, ◌⊎◌, List, ◌∷◌, length, Some, None, Option, refl, inl, inr, arith}
 use Rattle.std.proofs.lemmas.Bool.Decides.{nat_tests}
 use Rattle.trace.specs.declared.Event.{Event}
 use Rattle.trace.specs.Events.{by, acquires, releases}
@@ -20,6 +20,11 @@ By i e = by e ≡ i
 
 abbrev pub Frees : ℕ → Event → Type 0
 Frees l e = releases e ≡ Some l
+
+-- a release of the lock, where there is one to acquire, is at the place or happens after it
+abbrev pub Freed : List Event → Option ℕ → ℕ → Type 0
+Freed es None m = ⊥
+Freed es (Some l) m = Reached es (Frees l) m
 
 -- the next event follows directly on an event of its station, and on a release of the lock that it acquires
 abbrev pub Follows : Event → Event → Type 0

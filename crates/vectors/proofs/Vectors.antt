@@ -1,5 +1,5 @@
 -- What happens before the next event is what its vector counts: event after event, each station's and each lock's vector counts what reaches it. Assumes nothing.
-use Rattle.std.proofs.Common.{eqb, ◌≡◌, ℕ, List, [], ◌∷◌, Some, None, Option, refl, arith}
+use Rattle.std.proofs.Common.{eqb, ◌≡◌, ℕ, ◌⊎◌, List, [], ◌∷◌, Some, None, Option, refl, inl, arith}
 use Rattle.std.proofs.lemmas.Bool.Decides.{nat_tests}
 use Rattle.std.proofs.lemmas.Bool.{cond_both, eqb-true}
 use Rattle.trace.specs.declared.Event.{Event}
@@ -7,7 +7,7 @@ use Rattle.trace.specs.Events.{by, acquires, releases}
 use Rattle.trace.proofs.Places.{before_rises}
 use Rattle.vectors.specs.Check.{Vector, Clocks, joined, before, up_to, changed, greatest, clocks_with, after}
 use Rattle.vectors.specs.Laws.{count, VectorsTell}
-use Rattle.vectors.proofs.Reaching.{Reached, By, Frees, Ends, Leads, reached_within, reached_more, reached_less, ends_more, before_leads, leads_before}
+use Rattle.vectors.proofs.Reaching.{Reached, By, Frees, Freed, Ends, Leads, reached_within, reached_more, reached_less, ends_more, before_leads, leads_before}
 use Rattle.vectors.proofs.Exact.{Exact, exact_same, exact_join, exact_more, exact_own}
 
 -- what holds at each time: a station's vector counts what its events reach, a lock's what its releases reach
@@ -17,16 +17,22 @@ record Sound (es : List Event) (c : Clocks) : Type 0 where
   own : (i : ℕ) → c.station i i ≡ count i es
 
 module _ {es : List Event} {c : Clocks} (k : Sound es c) where
-  joined_exact : (f : Event) (a : Option ℕ) → acquires f ≡ a → Exact es (joined c.lock a (c.station (by f))) (Leads es f)
-  joined_exact f None h = exact_same (λ m r. grind arith) (λ m r. grind arith) (k.stations (by f))
-  joined_exact f (Some l) h = exact_same (λ m r. grind arith) (λ m r. grind arith) (exact_join (k.stations (by f)) (k.locks l))
+  -- with the vector of a lock or of none, of any station
+  joined_exact : (i : ℕ) (a : Option ℕ) → Exact es (joined c.lock a (c.station i)) (λ m. Reached es (By i) m ⊎ Freed es a m)
+  joined_exact i None = exact_same (λ m r. inl r) (λ m r. grind arith) (k.stations i)
+  joined_exact i (Some l) = exact_join (k.stations i) (k.locks l)
+
+  -- with that of the lock that an event acquires, if any: what leads to it
+  leads_exact : (f : Event) (a : Option ℕ) → acquires f ≡ a → Exact es (joined c.lock a (c.station (by f))) (Leads es f)
+  leads_exact f None h = exact_same (λ m r. grind arith) (λ m r. grind arith) (joined_exact (by f) None)
+  leads_exact f (Some l) h = exact_same (λ m r. grind arith) (λ m r. grind arith) (joined_exact (by f) (Some l))
 
   joined_own : (i : ℕ) (a : Option ℕ) → joined c.lock a (c.station i) i ≡ count i es
   joined_own i None = k.own i
   joined_own i (Some l) = grind (arith, nat_tests, k.own i, (k.locks l).within i)
 
   before_exact : (f : Event) → Exact es (before c f) (Leads es f)
-  before_exact f = joined_exact f (acquires f) refl
+  before_exact f = leads_exact f (acquires f) refl
 
   up_to_exact : (f : Event) → Exact (f ∷ es) (up_to c f) (Ends es f)
   up_to_exact f =
