@@ -80,6 +80,10 @@ module _ {copy old twin : List ℕ} {changes : List (Option ℕ)} {count i : ℕ
       let f = change (memory copy) (memory old) in
       omega (arith, tallied, count_few (map f (range_with_len 0 i)), length-map-range_with_len f 0 i)
 
+  -- nor than a page has words, whatever the place
+  pub few_in_all : count ≤ 64
+  few_in_all = omega (arith, w.tally, w.size, count_few changes)
+
 pub none_collected : (copy twin : List ℕ) → Collected copy twin twin (replicate 64 None) 0 0
 unfolding change_count
 none_collected copy twin =

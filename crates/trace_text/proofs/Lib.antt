@@ -1,2 +1,3 @@
 pub mod HexText
 pub mod KnownEvents
+pub mod SameParts

@@ -1,5 +1,5 @@
 // Bytes to events: ten of them make one.
-ghost use Rattle.std.specs.Prelude.{◌≤◌};
+ghost use Rattle.std.specs.Prelude.{◌≡◌, ◌-◌, ◌≤◌, length, drop, replicate};
 
 mod bytes;
 
@@ -9,4 +9,6 @@ pub struct Reader {
     part: [u8; 9],
     filled: usize,
     ghost short: { filled ≤ 9 },
+    ghost nine: { length part ≡ 9 },
+    ghost zeros: { drop filled part ≡ replicate (9 - filled) 0 },
 }
