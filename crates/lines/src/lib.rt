@@ -1,4 +1,4 @@
-// What every program prints: numbers behind words, values, refusals, and any other value as a line.
+// Lines of output: numbers behind words, and the values and refusals that `home` prints; and any value that prints, as a line.
 #![tactic(auto)]
 
 ghost use Rattle.std.specs.Prelude.{◌≡◌, ◌++◌, decimal, IfSome, OnOk, OnErr};

@@ -6,15 +6,10 @@ use Rattle.std.proofs.lemmas.Bool.Decides.{eqb_tells, nat_tests}
 use Rattle.basics.specs.Sizes.{page_of, put}
 use Rattle.model.specs.Bytes.{change_count}
 use Rattle.model.specs.Cache.{is_in, change, changes_at, differing, are_clean}
-use Rattle.pages.proofs.Collecting.{count_few}
+use Rattle.pages.proofs.Collecting.{one, count_few}
 use Rattle.pages.proofs.Ranges.{same_ranges}
 use Rattle.promise.specs.Station.{once}
 use Rattle.page_cache.specs.Slots.{differs, dirty_words}
-
--- a change counts for one
-abbrev one : Option ℕ → ℕ
-one None = 0
-one (Some v) = 1
 
 count_first : (c : Option ℕ) (cs : List (Option ℕ)) → change_count (c ∷ cs) ≡ one c + change_count cs
 unfolding change_count

@@ -10,7 +10,7 @@ use Rattle.model.specs.Cache.{change, changes_at}
 use Rattle.pages.specs.Memory.{memory}
 
 -- a change counts for one
-abbrev one : Option ℕ → ℕ
+abbrev pub one : Option ℕ → ℕ
 one None = 0
 one (Some v) = 1
 

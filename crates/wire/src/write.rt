@@ -36,6 +36,7 @@ pub fn encode(heap: Global, message: &Message) -> Result<Vec<u8>, AllocError>
             changes,
         } => {
             let count = change_count(&changes);
+            // room for the head, and for five bytes of each change, so that the bytes are never moved
             let mut out = Vec::with_capacity(heap, 9 + 5 * usize::from(count))?;
             out.extend_from_slice(&diff_head(kind, station, number, page, count))?;
             push_changes(&mut out, &changes)?;
